@@ -1,0 +1,215 @@
+-- The paper's marked sheets, A to K: one statement over one list of cases, at the words, by computation. Of each case:
+-- every step before it is accepted, the pass is accepted, the target's check is 0 afterwards, the whole answer list is the
+-- paper's, and so are the count, the floors and the level where the paper gives them.
+use Prim.Native.Nat.{ℕ, zero, suc, _+_, _*_}
+use mathlib.Core.Path.{_≡_, refl}
+use mathlib.Core.Bool.{Bool, true, false}
+use mathlib.Core.List.{List, [], _∷_, _++_, map}
+use mathlib.Core.Option.{Option, none, some}
+use lib.ListN.{getD, replicate, set, length, take, drop}
+use Rattle.paper.specs.Columns
+use Rattle.paper.specs.Rules
+use Rattle.paper.specs.Acts
+use Rattle.paper.specs.Tree
+use Rattle.paper.specs.Walk
+use Rattle.paper.specs.Order
+use Rattle.paper.specs.Words
+use Rattle.paper.specs.Refusals
+use Rattle.paper.specs.Check
+use Rattle.paper.specs.Calls
+use Rattle.paper.specs.Columns.{Vec, zeros, part}
+use Rattle.paper.specs.Tree.{Forest, end, sheet, folder, Tree, level, subtree, size}
+use Rattle.paper.specs.Words.{tableOf, Table, floorAt, wide}
+use Rattle.paper.specs.Refusals.{first}
+use Rattle.paper.specs.Check.{checkOf}
+use Rattle.paper.specs.Calls.{newOf, eventOf, passOf, settleOf, rowAt}
+
+-- a step of a run: device d makes event e at a row, a passes to b from a row on, b settles with a at a row by choice c
+data Step : Type 0 where
+  event : (d row e mark : ℕ) → Step
+  pass : (a b row : ℕ) → Step
+  settle : (a b row c mark : ℕ) → Step
+
+-- the tables of devices 0, 1 and 2, and the first refusal so far
+record Desk : Type 0 where
+  tables : List (List ℕ)
+  refused : ℕ
+
+plan : List ℕ
+plan = 5 ∷ 3 ∷ 0 ∷ 0 ∷ 0 ∷ []
+
+fresh : Desk
+fresh = record { tables = map (λ d. newOf 8 d plan (replicate 240 9) .table) (0 ∷ 1 ∷ 2 ∷ []); refused = 0 }
+
+table : Desk → ℕ → List ℕ
+table k d = getD (k .tables) d []
+
+-- a pass between two devices, with a list of the right length for the plan's rows
+passed : Desk → ℕ → ℕ → ℕ → Calls.Passed
+passed k a b row = passOf 8 (table k a) (table k b) row (replicate (getD (5 ∷ 3 ∷ 1 ∷ 1 ∷ 1 ∷ []) row 0) 9)
+
+-- the desk with device d's table and the call's number taken in
+with-table : Desk → ℕ → List ℕ → ℕ → Desk
+with-table k d t n = record { tables = set (k .tables) d t; refused = first (k .refused ∷ n ∷ []) }
+
+changed : Desk → ℕ → Calls.Changed → Desk
+changed k d o = with-table k d (o .table) (o .number)
+
+received : Desk → ℕ → Calls.Passed → Desk
+received k d o = with-table k d (o .target) (o .number)
+
+step : Desk → Step → Desk
+step k (event d row e mark) = changed k d (eventOf 8 (table k d) row e mark)
+step k (pass a b row) = received k b (passed k a b row)
+step k (settle a b row c mark) = changed k b (settleOf 8 (table k a) (table k b) row c mark)
+
+play : Desk → List Step → Desk
+play k [] = k
+play k (x ∷ xs) = play (step k x) xs
+
+-- a row's floor in a column
+record Floor : Type 0 where
+  row : ℕ
+  column : ℕ
+  holds : ℕ
+
+-- the steps before a pass, the pass, and what the paper says of it; the lists hold what it says, and may be empty
+record Case : Type 0 where
+  before : List Step
+  source : ℕ
+  target : ℕ
+  start : ℕ
+  answers : List ℕ
+  looked : List ℕ
+  floors : List Floor
+  rootLevel : List Bool
+
+-- what is compared
+record Said : Type 0 where
+  number : ℕ
+  check : ℕ
+  answers : List ℕ
+  looked : List ℕ
+  floors : List Floor
+  rootLevel : List Bool
+
+-- is the root of a table level?
+root-level : Table → Tree → Bool
+root-level t end = false
+root-level t (sheet s r) = false
+root-level t (folder f k r) = level 8 (t .clock) zeros f k
+
+-- the outcome, as far as the case speaks of it
+said : Case → Said
+said c =
+    let k = play fresh (c .before) in
+    let o = passed k (c .source) (c .target) (c .start) in
+    let a = tableOf 8 (table k (c .source)) in
+    record {
+      number = first (k .refused ∷ o .number ∷ []);
+      check = checkOf 8 (o .target);
+      answers = o .answers;
+      looked = map (λ n. o .count) (c .looked);
+      floors = map (λ f. record { row = f .row; column = f .column; holds = part 8 floorAt (rowAt 8 (o .target) (f .row)) (f .column) }) (c .floors);
+      rootLevel = map (λ b. root-level a (a .tree)) (c .rootLevel);
+    }
+
+-- what the paper says
+meant : Case → Said
+meant c = record { number = 0; check = 0; answers = c .answers; looked = c .looked; floors = c .floors; rootLevel = c .rootLevel }
+
+-- a case of which the paper gives the list alone, and one with the count too
+list : List Step → ℕ → ℕ → ℕ → List ℕ → Case
+list steps a b row says =
+    record { before = steps; source = a; target = b; start = row; answers = says; looked = []; floors = []; rootLevel = [] }
+
+count : List Step → ℕ → ℕ → ℕ → List ℕ → ℕ → Case
+count steps a b row says n =
+    record { before = steps; source = a; target = b; start = row; answers = says; looked = n ∷ []; floors = []; rootLevel = [] }
+
+created : List Step
+created = event 0 2 1 700 ∷ []
+
+-- after A; after A with both changing row 2; after C with device 1 settling own
+after-A : List Step
+after-A = created ++ (pass 0 1 0 ∷ [])
+
+before-C : List Step
+before-C = after-A ++ (event 0 2 2 701 ∷ event 1 2 2 702 ∷ [])
+
+before-D : List Step
+before-D = before-C ++ (pass 0 1 0 ∷ settle 0 1 2 2 0 ∷ [])
+
+before-F : List Step
+before-F = event 0 2 1 703 ∷ event 0 4 1 704 ∷ []
+
+after-F : List Step
+after-F = before-F ++ (pass 0 1 1 ∷ [])
+
+before-H : List Step
+before-H = event 0 2 1 705 ∷ event 1 2 1 706 ∷ event 1 2 3 0 ∷ []
+
+before-K : List Step
+before-K = event 0 2 1 707 ∷ event 1 2 1 708 ∷ []
+
+settled-K : List Step
+settled-K = before-K ++ (pass 1 2 0 ∷ pass 0 1 0 ∷ settle 0 1 2 2 0 ∷ [])
+
+cases : List Case
+cases =
+    -- A
+    record {
+      before = created;
+      source = 0;
+      target = 1;
+      start = 0;
+      answers = 4 ∷ 4 ∷ 1 ∷ 0 ∷ 0 ∷ [];
+      looked = 5 ∷ [];
+      floors = record { row = 2; column = 0; holds = 1 } ∷ record { row = 3; column = 0; holds = 1 } ∷ record { row = 4; column = 0; holds = 1 } ∷ [];
+      rootLevel = [];
+    } ∷
+    -- B, C, D, E
+    count after-A 0 1 0 (5 ∷ 5 ∷ 0 ∷ 0 ∷ 0 ∷ []) 1 ∷
+    list before-C 0 1 0 (4 ∷ 4 ∷ 3 ∷ 0 ∷ 0 ∷ []) ∷
+    list before-D 0 1 0 (5 ∷ 5 ∷ 0 ∷ 0 ∷ 0 ∷ []) ∷
+    list (before-D ++ (pass 0 1 0 ∷ [])) 1 0 0 (4 ∷ 4 ∷ 1 ∷ 0 ∷ 0 ∷ []) ∷
+    -- F: at row 1, then at row 0
+    list before-F 0 1 1 (4 ∷ 1 ∷ 0 ∷ []) ∷
+    count after-F 0 1 0 (4 ∷ 5 ∷ 0 ∷ 0 ∷ 1 ∷ []) 3 ∷
+    -- G: the source's root isn't level
+    record {
+      before = after-F;
+      source = 1;
+      target = 0;
+      start = 0;
+      answers = 4 ∷ 5 ∷ 0 ∷ 0 ∷ 0 ∷ [];
+      looked = [];
+      floors = [];
+      rootLevel = false ∷ [];
+    } ∷
+    -- H both ways, I, J
+    list before-H 0 1 0 (4 ∷ 4 ∷ 1 ∷ 0 ∷ 0 ∷ []) ∷
+    list before-H 1 0 0 (4 ∷ 4 ∷ 0 ∷ 0 ∷ 0 ∷ []) ∷
+    list (after-A ++ (event 0 2 2 709 ∷ event 1 2 3 0 ∷ [])) 0 1 0 (4 ∷ 4 ∷ 3 ∷ 0 ∷ 0 ∷ []) ∷
+    list (after-A ++ (event 0 2 3 0 ∷ [])) 0 1 0 (4 ∷ 4 ∷ 2 ∷ 0 ∷ 0 ∷ []) ∷
+    -- K, its four passes; and the last one started at row 1
+    list before-K 1 2 0 (4 ∷ 4 ∷ 1 ∷ 0 ∷ 0 ∷ []) ∷
+    list (before-K ++ (pass 1 2 0 ∷ [])) 0 1 0 (4 ∷ 4 ∷ 3 ∷ 0 ∷ 0 ∷ []) ∷
+    record {
+      before = settled-K;
+      source = 1;
+      target = 2;
+      start = 0;
+      answers = 5 ∷ 5 ∷ 0 ∷ 0 ∷ 0 ∷ [];
+      looked = [];
+      floors = record { row = 0; column = 0; holds = 1 } ∷ record { row = 0; column = 1; holds = 1 } ∷ [];
+      rootLevel = [];
+    } ∷
+    list (settled-K ++ (pass 1 2 0 ∷ [])) 0 2 0 (5 ∷ 5 ∷ 0 ∷ 0 ∷ 0 ∷ []) ∷
+    list (settled-K ++ (pass 1 2 0 ∷ [])) 0 2 1 (5 ∷ 0 ∷ 0 ∷ []) ∷
+    []
+
+-- A TO K
+marked : map said cases ≡ map meant cases
+unfolding said meant cases list count created after-A before-C before-D before-F after-F before-H before-K settled-K plan fresh table passed with-table changed received step play root-level Columns.covered Columns.alike Columns.part Columns.columns Rules.numberOf Rules.takes Rules.joins Rules.news Rules.rule Rules.ruling Acts.isLive Acts.fits Acts.eventRow Acts.stamps Acts.birthOf Acts.settleRow Tree.mapped Tree.size Tree.levels Tree.plus Tree.subtree Tree.graft Tree.sheetHere Tree.shaped Tree.above Tree.later Tree.stampVec Tree.newest Tree.smallestOf Tree.greatestOf Tree.level Walk.zip Walk.silent Walk.ruleAt Walk.ruled Walk.over Walk.walk Walk.answers Walk.looked Order.rowFits Order.inOrder Order.parse Order.wordsOf Words.kindOf Words.kindNumber Words.rowOf Words.tableOf Words.sheetWords Words.folderWords Words.rowsOf Words.headWords Words.written Refusals.first Refusals.when Refusals.tens Refusals.unless Check.blank Check.headFits Check.orderFits Check.proper Check.absent Check.laid Check.known Check.sheetFits Check.folderFits Check.rowsFit Check.checkOf Calls.planned Calls.newRefused Calls.newOf Calls.oneToThree Calls.eventNamed Calls.fitsSheet Calls.eventRefused Calls.eventSheet Calls.eventDone Calls.eventOf Calls.twoRefused Calls.passRefused Calls.passDone Calls.passOf Calls.rulingHere Calls.isFolder Calls.choiceNamed Calls.conflicts Calls.settleRefused Calls.settleSheet Calls.settleDone Calls.settleOf
+marked = refl

@@ -1,0 +1,11 @@
+pub mod Columns
+pub mod Rules
+pub mod Acts
+pub mod Tree
+pub mod Walk
+pub mod Order
+pub mod Words
+pub mod Refusals
+pub mod Check
+pub mod Good
+pub mod Calls

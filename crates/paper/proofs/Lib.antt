@@ -1,1 +1,4 @@
+pub mod Bools
+pub mod Columns
+pub mod Order
 pub mod Marked

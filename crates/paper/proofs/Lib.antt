@@ -2,4 +2,9 @@ pub mod Bools
 pub mod Columns
 pub mod Order
 pub mod Formed
+pub mod Blank
+pub mod Rows
+pub mod Refusals
+pub mod Check
+pub mod Tables
 pub mod Marked

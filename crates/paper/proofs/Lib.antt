@@ -7,4 +7,10 @@ pub mod Rows
 pub mod Refusals
 pub mod Check
 pub mod Tables
+pub mod Calls
+pub mod OneOutcome
+pub mod Computed
+pub mod Play
 pub mod Marked
+pub mod Acts
+pub mod InOrder

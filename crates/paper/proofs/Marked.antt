@@ -1,71 +1,17 @@
 -- The paper's marked sheets, A to K: one statement over one list of cases, at the words, by computation. Of each case:
 -- every step before it is accepted, the pass is accepted, the target's check is 0 afterwards, the whole answer list is the
 -- paper's, and so are the count, the floors and the level where the paper gives them.
-use Prim.Native.Nat.{ℕ, zero, suc, _+_, _*_}
+use Prim.Native.Nat.{ℕ}
 use mathlib.Core.Path.{_≡_, refl}
-use mathlib.Core.Bool.{Bool, true, false}
+use mathlib.Core.Bool.{Bool, false}
 use mathlib.Core.List.{List, [], _∷_, _++_, map}
-use mathlib.Core.Option.{Option, none, some}
-use lib.ListN.{getD, replicate, set, length, take, drop}
-use Rattle.paper.specs.Columns
-use Rattle.paper.specs.Rules
-use Rattle.paper.specs.Acts
-use Rattle.paper.specs.Tree
-use Rattle.paper.specs.Walk
-use Rattle.paper.specs.Order
-use Rattle.paper.specs.Words
-use Rattle.paper.specs.Refusals
-use Rattle.paper.specs.Check
-use Rattle.paper.specs.Calls
-use Rattle.paper.specs.Columns.{Vec, zeros, part}
-use Rattle.paper.specs.Tree.{Forest, end, sheet, folder, Tree, level, subtree, size}
-use Rattle.paper.specs.Words.{tableOf, Table, floorAt, wide}
+use Rattle.paper.specs.Columns.{zeros, part}
+use Rattle.paper.specs.Tree.{end, sheet, folder, Tree, level}
+use Rattle.paper.specs.Words.{tableOf, Table, floorAt}
 use Rattle.paper.specs.Refusals.{first}
 use Rattle.paper.specs.Check.{checkOf}
-use Rattle.paper.specs.Calls.{newOf, eventOf, passOf, settleOf, rowAt}
-
--- a step of a run: device d makes event e at a row, a passes to b from a row on, b settles with a at a row by choice c
-data Step : Type 0 where
-  event : (d row e mark : ℕ) → Step
-  pass : (a b row : ℕ) → Step
-  settle : (a b row c mark : ℕ) → Step
-
--- the tables of devices 0, 1 and 2, and the first refusal so far
-record Desk : Type 0 where
-  tables : List (List ℕ)
-  refused : ℕ
-
-plan : List ℕ
-plan = 5 ∷ 3 ∷ 0 ∷ 0 ∷ 0 ∷ []
-
-fresh : Desk
-fresh = record { tables = map (λ d. newOf 8 d plan (replicate 240 9) .table) (0 ∷ 1 ∷ 2 ∷ []); refused = 0 }
-
-table : Desk → ℕ → List ℕ
-table k d = getD (k .tables) d []
-
--- a pass between two devices, with a list of the right length for the plan's rows
-passed : Desk → ℕ → ℕ → ℕ → Calls.Passed
-passed k a b row = passOf 8 (table k a) (table k b) row (replicate (getD (5 ∷ 3 ∷ 1 ∷ 1 ∷ 1 ∷ []) row 0) 9)
-
--- the desk with device d's table and the call's number taken in
-with-table : Desk → ℕ → List ℕ → ℕ → Desk
-with-table k d t n = record { tables = set (k .tables) d t; refused = first (k .refused ∷ n ∷ []) }
-
-changed : Desk → ℕ → Calls.Changed → Desk
-changed k d o = with-table k d (o .table) (o .number)
-
-received : Desk → ℕ → Calls.Passed → Desk
-received k d o = with-table k d (o .target) (o .number)
-
-step : Desk → Step → Desk
-step k (event d row e mark) = changed k d (eventOf 8 (table k d) row e mark)
-step k (pass a b row) = received k b (passed k a b row)
-step k (settle a b row c mark) = changed k b (settleOf 8 (table k a) (table k b) row c mark)
-
-play : Desk → List Step → Desk
-play k [] = k
-play k (x ∷ xs) = play (step k x) xs
+use Rattle.paper.specs.Calls.{rowAt}
+use Rattle.paper.proofs.Play.{Step, event, pass, settle, Desk, fresh, table, passed, play, played}
 
 -- a row's floor in a column
 record Floor : Type 0 where
@@ -211,5 +157,5 @@ cases =
 
 -- A TO K
 marked : map said cases ≡ map meant cases
-unfolding said meant cases list count created after-A before-C before-D before-F after-F before-H before-K settled-K plan fresh table passed with-table changed received step play root-level Columns.every Columns.part Columns.columns Rules.numberOf Rules.takes Rules.joins Rules.news Rules.rule Rules.ruling Acts.isLive Acts.fits Acts.eventRow Acts.stamps Acts.birthOf Acts.settleRow Tree.mapped Tree.size Tree.levels Tree.plus Tree.subtree Tree.graft Tree.sheetHere Tree.shaped Tree.above Tree.later Tree.stampVec Tree.newest Tree.smallestOf Tree.greatestOf Tree.level Walk.zip Walk.silent Walk.ruleAt Walk.ruled Walk.over Walk.walk Walk.answers Walk.looked Order.rowFits Order.inOrder Order.parse Order.wordsOf Words.kindOf Words.kindNumber Words.rowOf Words.tableOf Words.sheetWords Words.folderWords Words.rowsOf Words.headWords Words.written Refusals.first Refusals.when Refusals.tens Refusals.unless Check.blank Check.headFits Check.orderFits Check.proper Check.absent Check.laid Check.known Check.sheetFits Check.folderFits Check.rowsFit Check.checkOf Calls.planned Calls.newRefused Calls.newOf Calls.oneToThree Calls.eventNamed Calls.fitsSheet Calls.eventRefused Calls.eventSheet Calls.eventDone Calls.eventOf Calls.twoRefused Calls.passRefused Calls.passDone Calls.passOf Calls.rulingHere Calls.isFolder Calls.choiceNamed Calls.conflicts Calls.settleRefused Calls.settleSheet Calls.settleDone Calls.settleOf
+unfolding said meant cases list count created after-A before-C before-D before-F after-F before-H before-K settled-K root-level played
 marked = refl

@@ -1,0 +1,73 @@
+//! Stamps, and vectors of one count for each device.
+
+use std::array;
+
+/// How many devices there can be, and so how many columns a vector has.
+pub const DEVICES: usize = 8;
+
+/// The name of an event: the device it happened on and that device's count of it.
+#[derive(Clone, Copy, Debug, Default, PartialEq, Eq)]
+pub struct Stamp {
+    pub device: u32,
+    pub count: u32,
+}
+
+impl Stamp {
+    /// What stands in a row that has no stamp or no birth.
+    pub const EMPTY: Stamp = Stamp {
+        device: 0,
+        count: 0,
+    };
+
+    /// Whether this can name an event: the device is 0 to 7 and the count at least 1.
+    pub fn is_proper(self) -> bool {
+        (self.device as usize) < DEVICES && self.count >= 1
+    }
+}
+
+/// One count for each device.
+#[derive(Clone, Copy, Debug, Default, PartialEq, Eq)]
+pub struct Vector(pub [u32; DEVICES]);
+
+impl Vector {
+    /// The vector of no counts at all.
+    pub const ZERO: Vector = Vector([0; DEVICES]);
+
+    /// The count in the column of a device; 0 for a device that has no column.
+    pub fn count(&self, device: u32) -> u32 {
+        self.0.get(device as usize).copied().unwrap_or(0)
+    }
+
+    /// The same vector with another count in the column of one device.
+    pub fn with(mut self, device: u32, count: u32) -> Vector {
+        if let Some(column) = self.0.get_mut(device as usize) {
+            *column = count;
+        }
+        self
+    }
+
+    /// Column by column, the greater count.
+    pub fn greatest(self, other: Vector) -> Vector {
+        Vector(array::from_fn(|column| self.0[column].max(other.0[column])))
+    }
+
+    /// Column by column, the smaller count.
+    pub fn smallest(self, other: Vector) -> Vector {
+        Vector(array::from_fn(|column| self.0[column].min(other.0[column])))
+    }
+
+    /// The vector with this stamp's count in its device's column, and zeros.
+    pub fn of_stamp(stamp: Stamp) -> Vector {
+        Vector::ZERO.with(stamp.device, stamp.count)
+    }
+
+    /// Whether a stamp or birth is covered: its device's column is at least its count.
+    pub fn covers(&self, stamp: Stamp) -> bool {
+        self.count(stamp.device) >= stamp.count
+    }
+
+    /// Whether another vector is covered, column by column.
+    pub fn covers_all(&self, other: Vector) -> bool {
+        self.greatest(other) == *self
+    }
+}

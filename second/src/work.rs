@@ -1,0 +1,154 @@
+//! Local work: new tables, events, and settling a conflict.
+
+use crate::order::{self, Place, MOST_ROWS};
+use crate::refusal::Refusal;
+use crate::rules::{self, Ruling};
+use crate::table::{Kind, Row, Table};
+use crate::times;
+use crate::vector::{Stamp, DEVICES};
+
+/// What a user does to a sheet.
+#[derive(Clone, Copy, Debug, PartialEq, Eq)]
+pub enum Event {
+    Create,
+    Change,
+    Remove,
+}
+
+impl Event {
+    /// The event of this number.
+    pub fn read(number: u32) -> Result<Event, Refusal> {
+        match number {
+            1 => Ok(Event::Create),
+            2 => Ok(Event::Change),
+            3 => Ok(Event::Remove),
+            _ => Err(Refusal::NoSuchChoice),
+        }
+    }
+
+    /// Whether it can happen to a row of this kind.
+    fn fits(self, kind: Kind) -> bool {
+        match self {
+            Event::Create => matches!(kind, Kind::Never | Kind::Removed),
+            Event::Change | Event::Remove => kind == Kind::Live,
+        }
+    }
+}
+
+/// How a conflict is settled.
+#[derive(Clone, Copy, Debug, PartialEq, Eq)]
+pub enum Choice {
+    Theirs,
+    Own,
+    New,
+}
+
+impl Choice {
+    /// The choice of this number.
+    pub fn read(number: u32) -> Result<Choice, Refusal> {
+        match number {
+            1 => Ok(Choice::Theirs),
+            2 => Ok(Choice::Own),
+            3 => Ok(Choice::New),
+            _ => Err(Refusal::NoSuchChoice),
+        }
+    }
+}
+
+/// A new table of a device, from a plan.
+pub fn new(device: u32, plan: &[u32]) -> Result<Table, Refusal> {
+    if device as usize >= DEVICES {
+        return Err(Refusal::NoSuchDevice);
+    }
+    let places: Vec<Place> = plan.iter().map(|&number| Place::of_plan(number)).collect();
+    if places.len() > MOST_ROWS || !order::is_kept(&places) {
+        return Err(Refusal::BadPlan);
+    }
+    let fresh = |place: Place| {
+        let kind = if place.folder {
+            Kind::Folder
+        } else {
+            Kind::Never
+        };
+        Row::fresh(kind, place.size)
+    };
+    Ok(Table {
+        device,
+        counter: 0,
+        rows: places.into_iter().map(fresh).collect(),
+    })
+}
+
+/// The next stamp of the table's device, its counter having gone up by one.
+fn next_stamp(table: &mut Table) -> Result<Stamp, Refusal> {
+    table.counter = table.counter.checked_add(1).ok_or(Refusal::CounterFull)?;
+    Ok(Stamp {
+        device: table.device,
+        count: table.counter,
+    })
+}
+
+/// Does an event to a sheet and gives the count of its stamp.
+pub fn event(table: &mut Table, row: usize, event: Event, mark: u32) -> Result<u32, Refusal> {
+    if !event.fits(table.rows[row].kind) {
+        return Err(Refusal::Unfit);
+    }
+    let stamp = next_stamp(table)?;
+    let sheet = &mut table.rows[row];
+    sheet.stamp = stamp;
+    match event {
+        Event::Create => {
+            sheet.kind = Kind::Live;
+            sheet.birth = stamp;
+            sheet.mark = mark;
+        }
+        Event::Change => sheet.mark = mark,
+        Event::Remove => {
+            sheet.kind = Kind::Removed;
+            sheet.birth = Stamp::EMPTY;
+            sheet.mark = 0;
+        }
+    }
+    times::mend(table);
+    Ok(stamp.count)
+}
+
+/// Settles the conflict at a sheet and gives the count of the new stamp, 0 if there is none.
+pub fn settle(
+    source: &Table,
+    target: &mut Table,
+    row: usize,
+    choice: Choice,
+    mark: u32,
+) -> Result<u32, Refusal> {
+    if target.rows[row].is_folder() {
+        return Err(Refusal::Unfit);
+    }
+    if rules::ruling(source, target, row) != Ruling::Conflict {
+        return Err(Refusal::NoConflict);
+    }
+    let count = match choice {
+        Choice::Theirs => {
+            target.rows[row].take(&source.rows[row]);
+            0
+        }
+        Choice::Own => 0,
+        Choice::New => renew(target, row, &source.rows[row], mark)?,
+    };
+    times::raise(target, row, times::known(source, row));
+    times::mend(target);
+    Ok(count)
+}
+
+/// Makes a sheet live with a new stamp and the mark given; its birth stays if it was live, and else is the source's.
+fn renew(target: &mut Table, row: usize, source: &Row, mark: u32) -> Result<u32, Refusal> {
+    let stamp = next_stamp(target)?;
+    let sheet = &mut target.rows[row];
+    if sheet.kind != Kind::Live {
+        sheet.birth = source.birth;
+    }
+    sheet.kind = Kind::Live;
+    sheet.stamp = stamp;
+    sheet.mark = mark;
+    Ok(stamp.count)
+}

@@ -1,6 +1,7 @@
 pub mod Bools
 pub mod Columns
 pub mod Order
+pub mod Forests
 pub mod Formed
 pub mod Blank
 pub mod Rows

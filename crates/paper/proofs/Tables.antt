@@ -21,7 +21,8 @@ use Rattle.paper.proofs.Bools.{and-both, both-and}
 use Rattle.paper.proofs.Refusals.{first-none, first-both, first-next, unless-so, none-so}
 use Rattle.paper.proofs.Formed.{Formed, formed-length, formed-ordered, cancel, ordered-formed, ordered-words}
 use Rattle.paper.proofs.Blank.{length-zeros, zeros-blank, blank-zeros, skip, three}
-use Rattle.paper.proofs.Rows.{mapped-size, rows-size, rows-formed, rows-read, words-read}
+use Rattle.paper.proofs.Forests.{mapped-size}
+use Rattle.paper.proofs.Rows.{rows-size, rows-formed, rows-read, words-read}
 use Rattle.paper.proofs.Check.{good-thin, rows-pass, rows-back, rows-good}
 
 -- a rooted tree's first row is a folder of all rows

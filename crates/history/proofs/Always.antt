@@ -1,0 +1,129 @@
+-- The invariant holds at the start of a run and after every call, accepted or refused: so after any run.
+use Prim.{Unit, tt}
+use Prim.Native.Nat.{ℕ, zero, suc, _-_, _<_, max}
+use mathlib.Core.Path.{_≡_, refl, sym, ap, _∙_, subst, fun-ext}
+use mathlib.Core.Bool.{Bool, true, false, cond}
+use mathlib.Core.List.{List, [], _∷_}
+use mathlib.Core.Option.{Option}
+use native.Mathlib.Omega.{arith}
+use lib.Dec.{ltb, eqb}
+use lib.ListN.{length}
+use borrow.Author.Tests.{ltb-true, lt-ltb, le-ltb}
+use Rattle.paper.specs.Columns.{Vec, zeros, greatest}
+use Rattle.paper.specs.Rules.{Cell}
+use Rattle.paper.specs.Tree.{Forest, end, sheet, folder, mapped, size}
+use Rattle.paper.specs.Words.{Table, tableOf}
+use Rattle.paper.specs.Refusals.{unless}
+use Rattle.paper.specs.Calls.{Changed, Passed, newOf, eventNamed, eventOf, passOf, choiceNamed, settleOf}
+use Rattle.paper.proofs.Forests.{shape, mapped-mapped}
+use Rattle.history.specs.Knowledge.{vectors, sets}
+use Rattle.history.specs.World.{noRow, begin, eventful, passing, settling}
+use Rattle.history.specs.Run.{Step, event, pass, settle, State, replaced, within, begun, after, run}
+use Rattle.history.specs.Look.{cellAt}
+use Rattle.history.proofs.Cells.{cellIn, cell-table}
+use Rattle.history.proofs.Agree.{begin-inv}
+use Rattle.history.proofs.Early.{Early}
+use Rattle.history.proofs.Accepted.{pass-accepted, event-accepted, settle-accepted}
+use Rattle.history.proofs.New.{bare, planRows, New-accepted, new-accepted}
+use Rattle.history.proofs.Kept.{Holds, no-tree, Kept}
+use Rattle.history.proofs.Runs.{pass-kept, event-kept, settle-kept}
+
+-- THE START
+
+bare-early : {X Y : Type 0} (count : Vec) (f : Forest X Y) (u : Vec) → Early count (bare f) u
+unfolding mapped
+bare-early count end u = tt
+bare-early count (sheet x r) u = ((λ j. omega arith), bare-early count r u)
+bare-early count (folder y k r) u = ((λ j. omega arith), bare-early count k (greatest u zeros), bare-early count r u)
+
+holds-cond : (t : Bool) (o q : Option (Cell Vec)) (c : Cell Vec) → Holds o c → Holds q c → Holds (cond t o q) c
+holds-cond true o q c p r = p
+holds-cond false o q c p r = r
+
+-- nothing is known of a tree with nothing in it
+bare-holds : {X Y : Type 0} (d : ℕ) (f : Forest X Y) (u : Vec) → ((j : ℕ) → u j ≡ 0) → (y : ℕ) → Holds (cellIn (record { device = d; counter = 0 }) (bare f) u y) (record { row = noRow; known = zeros })
+unfolding cellIn mapped
+bare-holds d end u h y = tt
+bare-holds d (sheet x r) u h zero = ap (λ v. record { row = noRow; known = v }) (fun-ext (λ j. go j (eqb j d)))
+  where
+    go : (j : ℕ) (t : Bool) → cond t 0 (max (u j) 0) ≡ 0
+    go j true = refl
+    go j false = omega (arith, h j)
+bare-holds d (sheet x r) u h (suc y) = bare-holds d r u h y
+bare-holds d (folder z k r) u h zero = tt
+bare-holds d (folder z k r) u h (suc y) =
+    holds-cond (ltb y (size (bare k))) (cellIn (record { device = d; counter = 0 }) (bare k) (greatest u zeros) y) (cellIn (record { device = d; counter = 0 }) (bare r) u (y - size (bare k))) (record { row = noRow; known = zeros })
+    (bare-holds d k (greatest u zeros) (λ j. omega (arith, h j)) y) (bare-holds d r u h (y - size (bare k)))
+
+module _ (w : ℕ) (plan : List ℕ) (lent : ℕ → List ℕ) (made : (d : ℕ) → d < w → newOf w d plan (lent d) .number ≡ 0) where
+  table-at : (d : ℕ) (t : Bool) → ltb d w ≡ t → (d < w → tableOf w (newOf w d plan (lent d) .table) ≡ record { clock = record { device = d; counter = 0 }; tree = bare (planRows w plan) })
+      → (tableOf w (cond t (newOf w d plan (lent d) .table) []) .clock .counter ≡ 0)
+      × ((y : ℕ) → Holds (cellAt (tableOf w (cond t (newOf w d plan (lent d) .table) [])) y) (record { row = noRow; known = zeros }))
+  unfolding tableOf cellIn
+  table-at d true e h =
+      let q = h (ltb-true d w e) in (
+        ap (λ (t : Table). t .clock .counter) q,
+        λ y. subst (λ t. Holds (cellAt t y) (record { row = noRow; known = zeros })) (sym q)
+            (subst (λ o. Holds o (record { row = noRow; known = zeros })) (sym (cell-table (record { clock = record { device = d; counter = 0 }; tree = bare (planRows w plan) }) y))
+            (bare-holds d (planRows w plan) zeros (λ j. refl) y)),
+      )
+  table-at d false e h = (
+    refl,
+    λ y. subst (λ o. Holds o (record { row = noRow; known = zeros })) (sym (cell-table (tableOf w []) y ∙ ap (λ t. cellIn (tableOf w [] .clock) t zeros y) (no-tree w))) tt,
+  )
+
+  -- new tables have nothing in them, and the history no event
+  pub begun-kept : Kept w (shape (planRows w plan)) (begun w plan lent)
+  unfolding begun begin
+  begun-kept = record {
+    sound = λ d l. rw (lt-ltb d w l) (accepted d l .check);
+    away = λ d l. rw (le-ltb d w l);
+    device = λ d l. rw (lt-ltb d w l) (ap (λ (t : Table). t .clock .device) (accepted d l .read));
+    shapes = λ d l. rw (lt-ltb d w l) (ap (λ (t : Table). shape (t .tree)) (accepted d l .read) ∙ mapped-mapped _ _ _ _ (planRows w plan));
+    early = λ d l. subst (λ (t : Table). Early counters (t .tree) zeros) (sym (read d l)) (bare-early counters (planRows w plan) zeros);
+    flat = begin vectors;
+    counts = λ d. sym (table-at d (ltb d w) refl (λ l. accepted d l .read) .0);
+    holds = λ d y. table-at d (ltb d w) refl (λ l. accepted d l .read) .1 y;
+    inv = begin-inv;
+  }
+    where
+      accepted : (d : ℕ) → d < w → New-accepted w d plan (lent d)
+      accepted d l = new-accepted w d plan (lent d) (made d l)
+
+      read : (d : ℕ) → d < w → tableOf w (cond (ltb d w) (newOf w d plan (lent d) .table) []) ≡ record { clock = record { device = d; counter = 0 }; tree = bare (planRows w plan) }
+      read d l = rw (lt-ltb d w l) (accepted d l .read)
+
+      counters : Vec
+      counters x = tableOf w (cond (ltb x w) (newOf w x plan (lent x) .table) []) .clock .counter
+
+-- A CALL
+module _ (w : ℕ) (p : Forest (Unit {0}) (Unit {0})) where
+  -- a refused call changes nothing; what an accepted one does is told by its outcome
+  unless-kept : (n : ℕ) (s t : State) → Kept w p s → (n ≡ 0 → Kept w p t) → Kept w p (unless n s t)
+  unfolding unless
+  unless-kept zero s t k h = h refl
+  unless-kept (suc n) s t k h = k
+
+  after-kept : (s : State) (x : Step) → Kept w p s → Kept w p (after w s x)
+  unfolding after
+  after-kept s (event d row e m) k =
+      unless-kept (eventOf w (s .tables d) row e m .number) s _ k
+      (λ q.
+      let acc = event-accepted w (s .tables d) row e m q in
+      subst (λ (o : Changed). Kept w p (record { tables = replaced (s .tables) d (o .table); past = eventful sets (s .past) d row (eventNamed e) m })) (sym (acc .done)) (event-kept w p s k d row e m acc))
+  after-kept s (pass a b row list) k =
+      unless-kept (passOf w (s .tables a) (s .tables b) row list .number) s _ k
+      (λ q.
+      let acc = pass-accepted w (s .tables a) (s .tables b) row list q in
+      subst (λ (o : Passed). Kept w p (record { tables = replaced (s .tables) b (o .target); past = passing sets (s .past) a b (within row (length list)) })) (sym (acc .done)) (pass-kept w p s k a b row list acc))
+  after-kept s (settle a b row c m) k =
+      unless-kept (settleOf w (s .tables a) (s .tables b) row c m .number) s _ k
+      (λ q.
+      let acc = settle-accepted w (s .tables a) (s .tables b) row c m q in
+      subst (λ (o : Changed). Kept w p (record { tables = replaced (s .tables) b (o .table); past = settling sets (s .past) a b row (choiceNamed c) m })) (sym (acc .done)) (settle-kept w p s k a b row c m acc))
+
+  -- ANY RUN
+  pub run-kept : (s : State) (xs : List Step) → Kept w p s → Kept w p (run w s xs)
+  unfolding run
+  run-kept s [] k = k
+  run-kept s (x ∷ xs) k = run-kept (after w s x) xs (after-kept s x k)

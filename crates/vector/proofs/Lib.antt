@@ -1,0 +1,4 @@
+pub mod Columns
+pub mod Loops
+pub mod Places
+pub mod Sums

@@ -1,0 +1,83 @@
+-- What a pass does at one row, said of the words of the source's row s and the target's row t. More words may follow
+-- either row: they stay.
+use Prim.Native.Nat.{ℕ, _≤_, _<_, _*_}
+use mathlib.Core.Bool.{Bool, _&&_, cond}
+use mathlib.Core.List.{List}
+use mathlib.Core.Path.{_≡_}
+use lib.Dec.{eqb}
+use lib.ListN.{length, getD, take, drop, set}
+use Rattle.paper.specs.declared.Ruling.{Ruling}
+use Rattle.paper.specs.declared.Clock.{Clock}
+use Rattle.paper.specs.Columns.{Vec, full, covered, alike, part, columns}
+use Rattle.paper.specs.Rules.{numberOf, takes}
+use Rattle.paper.specs.Tree.{Sheet}
+use Rattle.paper.specs.Walk.{Two, raised, ruleAt, ruled}
+use Rattle.paper.specs.Words.{floorAt, newestAt, leastAt, mostAt, floorOf, sheetOf}
+use Rattle.vector.specs.Width.{devices, width}
+use Rattle.vector.specs.Places.{put}
+use Rattle.vector.specs.Sums.{Sums, sumsAlone, sumsRow, Mended}
+
+-- what the leaves take for granted: two whole rows, and devices that are columns
+pub record Rows (s t : List ℕ) (a b : Clock) : Type 0 where
+  pub source : width ≤ length s
+  pub target : width ≤ length t
+  pub deviceA : a .device < devices
+  pub deviceB : b .device < devices
+
+-- for a sheet: a place for its answer, and stamps whose devices are columns
+pub record SheetRows (s t : List ℕ) (a b : Clock) (places : ℕ) : Type 0 where
+  pub rows : Rows s t a b
+  pub answer : 1 ≤ places
+  pub stampA : getD s 2 0 < devices
+  pub stampB : getD t 2 0 < devices
+
+-- t with what stands at s: words 0 and 2 to 7
+unfoldable pub takenFrom : List ℕ → List ℕ → List ℕ
+takenFrom s t = put 2 (take 6 (drop 2 s)) (set t 0 (getD s 0 0))
+
+-- the answer beneath a passed-over folder, by a row's kind
+abbrev pub silentKind : ℕ → ℕ
+silentKind kind = cond (eqb kind 3) 5 0
+
+-- the same for row i of a part with rows of n words
+abbrev pub silentAt : ℕ → List ℕ → ℕ → ℕ
+silentAt n s i = silentKind (getD s (i * n) 0)
+
+-- with vectors of w columns
+module _ (w : ℕ) where
+  -- the sheets that two rows say
+  abbrev pub sheetsOf : List ℕ → List ℕ → Two Sheet
+  sheetsOf s t = record { a = sheetOf w s; b = sheetOf w t }
+
+  -- t with the floor f
+  unfoldable pub floored : Vec → List ℕ → List ℕ
+  floored f t = put floorAt (columns w f) t
+
+  -- a is the source's clock and b the target's, ua and ub the floors above
+  module _ (a b : Clock) where
+    -- a sheet's row after the ruling r
+    unfoldable pub ruledRow : Vec → Ruling → List ℕ → List ℕ → List ℕ
+    ruledRow ua r s t =
+        let t′ = floored (ruled a b ua r (sheetsOf s t) .floor) t in
+        cond (takes r) (takenFrom s t′) t′
+
+    -- is a folder passed over, by the summaries in the two rows?
+    unfoldable pub overRows : Vec → Vec → List ℕ → List ℕ → Bool
+    overRows ua ub s t =
+        covered w (part w (newestAt w) s) (full b ub (part w (leastAt w) t))
+        && alike w (full a ua (part w (leastAt w) s)) (full a ua (part w (mostAt w) s))
+
+    -- the row of a folder that is passed over, its floor raised by A's full least and its summaries not yet put right
+    unfoldable pub overFloor : Vec → List ℕ → List ℕ → List ℕ
+    overFloor ua s t = floored (raised b (floorOf w t) (full a ua (part w (leastAt w) s))) t
+
+-- what is promised of a sheet's row: its answer, its words, and what it then comes to
+pub record SheetDone (w : ℕ) (a b : Clock) (ua ub : Vec) (s t answers t′ answers′ : List ℕ) (all : Sums) : Type 0 where
+  pub answer : answers′ ≡ set answers 0 (numberOf (ruleAt a b ua ub (sheetsOf w s t)))
+  pub words : t′ ≡ ruledRow w a b ua (ruleAt a b ua ub (sheetsOf w s t)) s t
+  pub sums : all ≡ sumsAlone (sheetOf w t′)
+
+-- what is promised of the row of a folder that is passed over, in a part with rows of n words
+pub record OverDone (w n : ℕ) (a b : Clock) (ua : Vec) (s t t′ answers′ : List ℕ) (places : ℕ) (all : Sums) : Type 0 where
+  pub answers : answers′ ≡ columns places (silentAt n s)
+  pub row : Mended w (sumsRow w (overFloor w a b ua s t)) (overFloor w a b ua s t) t′ all

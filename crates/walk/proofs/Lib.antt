@@ -1,0 +1,9 @@
+pub mod Loans
+pub mod Siblings
+pub mod Cuts
+pub mod Rows
+pub mod Needs
+pub mod Places
+pub mod Sums
+pub mod Starts
+pub mod Descent

@@ -1,0 +1,10 @@
+pub mod Stored
+pub mod Formed
+pub mod Lent
+pub mod Fine
+pub mod Levels
+pub mod Grafts
+pub mod Subtrees
+pub mod Placed
+pub mod Events
+pub mod Settles

@@ -1,0 +1,3 @@
+pub mod Mended
+pub mod Events
+pub mod Settles

@@ -1,0 +1,36 @@
+-- Where the parts that are shown lie: in which of two tables, and at which word of it.
+use Prim.Native.Nat.{ℕ, _+_, _*_}
+use mathlib.Core.List.{List}
+use mathlib.Core.Bool.{cond}
+use lib.Dec.{eqb}
+use mathlib.Core.Option.{Option, none, some}
+use Rattle.paper.specs.declared.Ruling.{Ruling}
+use Rattle.paper.specs.declared.Ruling.the-variants.{KeepOwn, KeepTheirs, Copy, Remove, Conflict}
+use Rattle.paper.specs.Words.{wide, tableOf}
+use Rattle.paper.specs.Refusals.{unless}
+use Rattle.paper.specs.Calls.{rulingHere, beneathRefused, standingRefused}
+
+-- 1 the source's where the rules say copy or remove, 2 the target's where they say keep, 0 none on a conflict
+unfoldable pub side : Option Ruling → ℕ
+side none = 0
+side (some KeepOwn) = 2
+side (some KeepTheirs) = 2
+side (some Copy) = 1
+side (some Remove) = 1
+side (some Conflict) = 0
+
+-- none on a refusal
+unfoldable pub sideOf : ℕ → List ℕ → List ℕ → ℕ → ℕ
+sideOf w s t row = unless (standingRefused w s t row) 0 (side (rulingHere (tableOf w s) (tableOf w t) row))
+
+-- the place of word i of a table that lies at p: the same block, four bytes a word
+abbrev pub wordAt : ℕ × ℕ → ℕ → ℕ × ℕ
+wordAt p i = (p .0, p .1 + i * 4)
+
+-- the word of the table at which the rows beneath a folder begin; the empty part on a refusal lies at the table's start
+unfoldable pub beneathFrom : ℕ → List ℕ → ℕ → ℕ
+beneathFrom w t row = unless (beneathRefused w t row) 0 ((row + 2) * wide w)
+
+-- where the row that stands lies, by its side: at word i of the source's or of the target's table; the empty part at the target's start
+unfoldable pub standingAt : ℕ → ℕ × ℕ → ℕ × ℕ → ℕ → ℕ × ℕ
+standingAt side source target i = cond (eqb side 0) (wordAt target 0) (cond (eqb side 1) (wordAt source i) (wordAt target i))

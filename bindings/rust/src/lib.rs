@@ -1,0 +1,52 @@
+//! Duty sheets carried between devices, so that no correction is lost.
+//!
+//! Each device holds a [`Table`] of times for one tree of duty sheets. A [`pass`] carries what is new from one table
+//! to another; where two people have worked on one sheet without knowing of each other it says conflict, and
+//! somebody chooses: see [`settle`].
+//!
+//! ```
+//! use kettleflock::{pass, settle, Answer, Choice, Plan, Table};
+//!
+//! let plan = Plan::folder([Plan::folder([Plan::sheet(), Plan::sheet()]), Plan::sheet()]);
+//! let mut desk = Table::new(0, &plan)?;
+//! let mut tablet = Table::new(1, &plan)?;
+//!
+//! desk.create(2, 700)?;
+//! pass(&desk, &mut tablet, 0)?;
+//!
+//! // Both correct the sheet: nothing is lost in silence.
+//! desk.change(2, 701)?;
+//! tablet.change(2, 702)?;
+//! assert_eq!(pass(&desk, &mut tablet, 0)?.answer(2), Some(Answer::Conflict));
+//! settle(&desk, &mut tablet, 2, Choice::Own)?;
+//! assert_eq!(pass(&tablet, &mut desk, 0)?.answer(2), Some(Answer::Copy));
+//! # Ok::<(), kettleflock::Refusal>(())
+//! ```
+
+pub mod raw;
+
+mod pass;
+mod plan;
+mod refusal;
+mod row;
+mod table;
+
+pub use pass::{pass, settle, standing, Answer, Choice, Passed, Standing};
+pub use plan::Plan;
+pub use refusal::Refusal;
+pub use row::{Kind, Row, Rows, Stamp};
+pub use table::Table;
+
+/// The count of a call that succeeded.
+fn succeed(answer: raw::Answer) -> Result<u32, Refusal> {
+    match answer.number {
+        0 => Ok(answer.count),
+        number => Err(Refusal::from_number(number)
+            .unwrap_or_else(|| unreachable!("a refusal is 1 to 17, not {number}"))),
+    }
+}
+
+/// A row or size as the library takes it. One beyond 32 bits becomes the greatest, which is no row of any table.
+fn number(row: usize) -> u32 {
+    u32::try_from(row).unwrap_or(u32::MAX)
+}

@@ -1,0 +1,201 @@
+//! Passing from one table to another, settling, and seeing what stands.
+
+use crate::row::Row;
+use crate::table::Table;
+use crate::{number, raw, succeed, Refusal};
+
+/// What a pass says of a row.
+#[derive(Clone, Copy, Debug, PartialEq, Eq, Hash)]
+#[repr(u32)]
+pub enum Answer {
+    /// The target's sheet stays.
+    Keep = 0,
+    /// The target has taken the source's sheet.
+    Copy = 1,
+    /// The target's sheet has been removed.
+    Remove = 2,
+    /// Nothing was done: this is to be settled.
+    Conflict = 3,
+    /// A folder whose children were looked at.
+    Walked = 4,
+    /// A folder with nothing new beneath it.
+    PassedOver = 5,
+}
+
+impl Answer {
+    fn from_number(number: u32) -> Answer {
+        match number {
+            0 => Answer::Keep,
+            1 => Answer::Copy,
+            2 => Answer::Remove,
+            3 => Answer::Conflict,
+            4 => Answer::Walked,
+            5 => Answer::PassedOver,
+            _ => unreachable!("an answer list holds 0 to 5, not {number}"),
+        }
+    }
+}
+
+/// What a pass says of each row of its subtree.
+#[derive(Clone, Debug, PartialEq, Eq)]
+pub struct Passed {
+    start: usize,
+    answers: Vec<Answer>,
+    looked_at: usize,
+}
+
+impl Passed {
+    /// What it says of a row; `None` outside its subtree.
+    pub fn answer(&self, row: usize) -> Option<Answer> {
+        self.answers.get(row.checked_sub(self.start)?).copied()
+    }
+
+    /// All its rows in order, and what it says of each.
+    pub fn iter(&self) -> impl Iterator<Item = (usize, Answer)> + '_ {
+        (self.start..).zip(self.answers.iter().copied())
+    }
+
+    /// The rows to be settled.
+    pub fn conflicts(&self) -> impl Iterator<Item = usize> + '_ {
+        self.iter()
+            .filter(|&(_, answer)| answer == Answer::Conflict)
+            .map(|(row, _)| row)
+    }
+
+    /// How many rows were looked at: those not beneath a folder that was passed over.
+    pub fn looked_at(&self) -> usize {
+        self.looked_at
+    }
+}
+
+/// How a conflict is settled.
+#[derive(Clone, Copy, Debug, PartialEq, Eq, Hash)]
+pub enum Choice {
+    /// The target takes the source's sheet, or its removal.
+    Theirs,
+    /// The target's sheet, or its removal, stays.
+    Own,
+    /// The target's sheet is live, with a new stamp and this mark.
+    New {
+        /// What stands for the new content.
+        mark: u32,
+    },
+}
+
+/// The row that stands if a source is passed to a target.
+#[derive(Clone, Copy, Debug, PartialEq, Eq)]
+pub enum Standing<'a> {
+    /// The source's: the rules say copy or remove.
+    Source(Row<'a>),
+    /// The target's.
+    Target(Row<'a>),
+    /// None: the rules say conflict.
+    Conflict,
+}
+
+/// Passes a row of the source, and all beneath it, to the target.
+///
+/// The target's sheets and times are brought up to date, but for conflicts, which change nothing.
+///
+/// ```
+/// use kettleflock::{pass, Answer, Plan, Table};
+///
+/// let plan = Plan::folder([Plan::folder([Plan::sheet(), Plan::sheet()]), Plan::sheet()]);
+/// let mut desk = Table::new(0, &plan)?;
+/// let mut tablet = Table::new(1, &plan)?;
+/// desk.create(2, 700)?;
+///
+/// let passed = pass(&desk, &mut tablet, 0)?;
+/// assert_eq!(passed.answer(2), Some(Answer::Copy));
+/// assert_eq!(passed.looked_at(), 5);
+///
+/// // The same again has nothing to do, and looks at the root alone.
+/// let passed = pass(&desk, &mut tablet, 0)?;
+/// assert_eq!(passed.answer(0), Some(Answer::PassedOver));
+/// assert_eq!(passed.looked_at(), 1);
+/// # Ok::<(), kettleflock::Refusal>(())
+/// ```
+pub fn pass(source: &Table, target: &mut Table, row: usize) -> Result<Passed, Refusal> {
+    let size = target.row(row).map_or(0, |row| row.size());
+    let mut answers = vec![0; size];
+    let looked_at = succeed(raw::pass(
+        source.words(),
+        target.words_mut(),
+        number(row),
+        &mut answers,
+    ))?;
+    Ok(Passed {
+        start: row,
+        answers: answers.into_iter().map(Answer::from_number).collect(),
+        looked_at: looked_at as usize,
+    })
+}
+
+/// Settles a conflict in the target, so that it does not come back. Gives the count of the new stamp, if the choice
+/// makes one.
+///
+/// ```
+/// use kettleflock::{pass, settle, Choice, Kind, Plan, Table};
+///
+/// let plan = Plan::folder([Plan::sheet()]);
+/// let mut desk = Table::new(0, &plan)?;
+/// let mut tablet = Table::new(1, &plan)?;
+/// desk.create(1, 10)?;
+/// tablet.create(1, 20)?;
+///
+/// let conflicts: Vec<usize> = pass(&desk, &mut tablet, 0)?.conflicts().collect();
+/// assert_eq!(conflicts, [1]);
+/// assert_eq!(settle(&desk, &mut tablet, 1, Choice::New { mark: 30 })?, Some(2));
+/// assert_eq!(pass(&desk, &mut tablet, 0)?.conflicts().count(), 0);
+/// # Ok::<(), kettleflock::Refusal>(())
+/// ```
+pub fn settle(
+    source: &Table,
+    target: &mut Table,
+    row: usize,
+    choice: Choice,
+) -> Result<Option<u32>, Refusal> {
+    let (choice, mark) = match choice {
+        Choice::Theirs => (1, 0),
+        Choice::Own => (2, 0),
+        Choice::New { mark } => (3, mark),
+    };
+    let answer = raw::settle(
+        source.words(),
+        target.words_mut(),
+        number(row),
+        choice,
+        mark,
+    );
+    let count = succeed(answer)?;
+    Ok((count > 0).then_some(count))
+}
+
+/// The row that stands if the source is passed to the target. Nothing is changed.
+///
+/// ```
+/// use kettleflock::{standing, Plan, Standing, Table};
+///
+/// let plan = Plan::folder([Plan::sheet()]);
+/// let mut desk = Table::new(0, &plan)?;
+/// let tablet = Table::new(1, &plan)?;
+/// desk.create(1, 10)?;
+///
+/// assert!(matches!(standing(&desk, &tablet, 1)?, Standing::Source(_)));
+/// assert!(matches!(standing(&tablet, &desk, 1)?, Standing::Target(_)));
+/// # Ok::<(), kettleflock::Refusal>(())
+/// ```
+pub fn standing<'a>(
+    source: &'a Table,
+    target: &'a Table,
+    row: usize,
+) -> Result<Standing<'a>, Refusal> {
+    succeed(raw::standing(source.words(), target.words(), number(row)))?;
+    let side = raw::standing_side(source.words(), target.words(), number(row));
+    let stands = match side {
+        1 => source.row(row).map(Standing::Source),
+        2 => target.row(row).map(Standing::Target),
+        _ => None,
+    };
+    Ok(stands.unwrap_or(Standing::Conflict))
+}

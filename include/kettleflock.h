@@ -1,0 +1,160 @@
+/*
+ * Kettleflock: duty sheets carried between devices.
+ *
+ * A device holds one table of times for a tree of duty sheets. A pass takes a source table, only read, and a
+ * target table, changed: it says for each sheet what the target must do and brings the target's times up to
+ * date. The library keeps no state and allocates nothing; all memory is lent by the caller for one call.
+ *
+ * Lent memory. Every buffer is a pointer to 32-bit words followed by its length in words. The pointer isn't
+ * NULL, even where the length is 0, and it points to that many words. The buffers of one call don't overlap.
+ * Any words at all may be lent: what isn't a sound table is refused.
+ *
+ * Answers. Every call gives a number and a count. Number 0 is success; any other is one of KF_REFUSED_..., with
+ * the count 0, and then no word of any buffer has changed. Where several refusals apply, the first in the order
+ * given at the call is the one given.
+ *
+ * Layout. A table is a head of 40 words (device, counter, number of rows, zeros) and then 40 words for each of its
+ * 1 to 256 rows: 0 kind, 1 size, 2-3 stamp (device, count), 4-5 birth (device, count), 6 mark, 7 zero, 8-15 floor,
+ * 16-23 newest, 24-31 least, 32-39 most. Rows are depth first and numbered from 0, the root; a folder's size counts
+ * itself and all rows beneath it, a sheet's is 1.
+ */
+#ifndef KETTLEFLOCK_H
+#define KETTLEFLOCK_H
+
+#include <stddef.h>
+#include <stdint.h>
+
+#ifdef __cplusplus
+extern "C" {
+#endif
+
+/* The words of a row, and of the head. */
+#define KF_WIDTH 40
+/* The most rows of a table, and the most levels, root and sheets included. */
+#define KF_MOST_ROWS 256
+#define KF_MOST_LEVELS 16
+/* How many devices there can be: they're numbered 0 to 7. */
+#define KF_DEVICES 8
+/* The length of a table of so many rows, and where a row starts, in words. */
+#define KF_LENGTH(rows) (KF_WIDTH * ((size_t)(rows) + 1))
+#define KF_ROW(row) (KF_WIDTH * ((size_t)(row) + 1))
+
+/* What every call gives. */
+typedef struct kf_answer {
+    uint32_t number; /* 0, or why the call was refused */
+    uint32_t count;  /* what the call counts; 0 on a refusal */
+} kf_answer;
+
+/* Why a call is refused. */
+enum kf_refusal {
+    KF_REFUSED_HEAD = 1,          /* length or head wrong: device above 7, row count not 1 to 256 or not matching the
+                                     length, non-zero rest */
+    KF_REFUSED_ORDER = 2,         /* a kind is above 3, or sizes, row 0 or levels break the order of rows; or a plan that
+                                     would give such rows */
+    KF_REFUSED_RULE = 3,          /* any other rule of the layout or the times is broken */
+    KF_REFUSED_PLACES = 4,        /* sizes or folder places differ between the tables */
+    KF_REFUSED_ONE_DEVICE = 5,    /* both tables have one device number */
+    KF_REFUSED_SOURCE_AHEAD = 6,  /* a floor in the source names a later count of the target's device than its counter */
+    KF_REFUSED_TARGET_AHEAD = 7,  /* the same with source and target exchanged */
+    KF_REFUSED_ROW = 8,           /* no such row (for the rows under a folder: or not a folder) */
+    KF_REFUSED_LENGTH = 9,        /* a lent output has the wrong length */
+    KF_REFUSED_UNFIT = 10,        /* event unfit for the row's kind, or settling a folder; showing a folder as the row
+                                     that stands */
+    KF_REFUSED_TARGET_HEAD = 11,  /* 1, for the target */
+    KF_REFUSED_TARGET_ORDER = 12, /* 2, for the target */
+    KF_REFUSED_TARGET_RULE = 13,  /* 3, for the target */
+    KF_REFUSED_NO_CONFLICT = 14,  /* settling where the rules don't say conflict */
+    KF_REFUSED_COUNTER = 15,      /* the counter is 4,294,967,295 and a new stamp is needed */
+    KF_REFUSED_CHOICE = 16,       /* event or choice not 1, 2 or 3 */
+    KF_REFUSED_DEVICE = 17        /* new table's device above 7 */
+};
+
+/* Word 0 of a row. Everything but a folder is a sheet. */
+enum kf_kind { KF_NEVER = 0, KF_LIVE = 1, KF_REMOVED = 2, KF_FOLDER = 3 };
+
+/* What a user does to a sheet. */
+enum kf_event { KF_CREATE = 1, KF_CHANGE = 2, KF_REMOVE = 3 };
+
+/* How a conflict is settled. */
+enum kf_choice { KF_THEIRS = 1, KF_OWN = 2, KF_NEW = 3 };
+
+/* What a pass says of a row. */
+enum kf_said {
+    KF_SAID_KEEP = 0,       /* the target's sheet stays */
+    KF_SAID_COPY = 1,       /* the target takes the source's sheet */
+    KF_SAID_REMOVE = 2,     /* the target's sheet is removed */
+    KF_SAID_CONFLICT = 3,   /* nothing was done: settle it with kf_settle */
+    KF_SAID_WALKED = 4,     /* a folder whose children were looked at */
+    KF_SAID_PASSED_OVER = 5 /* a folder with nothing new beneath it */
+};
+
+/* In whose table the row that stands lies. */
+enum kf_side { KF_NEITHER = 0, KF_SOURCE = 1, KF_TARGET = 2 };
+
+/*
+ * Judges a table, only read. Counts its rows.
+ * Refused with 1, 2, 3.
+ */
+kf_answer kf_check(const uint32_t *table, size_t table_length);
+
+/*
+ * Makes a new table of a device, 0 to 7, with counter 0 and every sheet never. Counts its rows.
+ *
+ * The plan has a number for each row, depth first: 0 for a sheet, k for a folder of size k. `table` is written whole
+ * and must have KF_LENGTH(plan_length) words; what was in it doesn't matter.
+ * Refused with 17, 2 (also for a plan with no row or over 256), 9.
+ */
+kf_answer kf_new(uint32_t device, const uint32_t *plan, size_t plan_length, uint32_t *table, size_t table_length);
+
+/*
+ * Does an event to a sheet: KF_CREATE (never or removed), KF_CHANGE (live) or KF_REMOVE (live). The counter goes up by
+ * one; the new stamp is counted. `mark` stands for the sheet's content; KF_REMOVE ignores it.
+ * Refused with 1, 2, 3, 16, 8, 10, 15.
+ */
+kf_answer kf_event(uint32_t *table, size_t table_length, uint32_t row, uint32_t event, uint32_t mark);
+
+/*
+ * Passes from source, only read, to target: the row and all beneath it. Counts the rows looked at.
+ *
+ * `answers` must have as many words as the row's size; it gets one of KF_SAID_... for each row, the first being
+ * `row` itself. Sheets and times of the target are brought up to date, but for conflicts.
+ * Refused with 1, 2, 3, 11, 12, 13, 4, 5, 6, 7, 8, 9.
+ */
+kf_answer kf_pass(const uint32_t *source, size_t source_length, uint32_t *target, size_t target_length, uint32_t row,
+                  uint32_t *answers, size_t answers_length);
+
+/*
+ * Settles a sheet where the rules say conflict, in the target: KF_THEIRS takes the source's sheet, KF_OWN keeps the
+ * target's, KF_NEW makes it live with a new stamp and the mark given (the others ignore the mark). The conflict
+ * doesn't come back. Counts the new stamp, 0 if there is none.
+ * Refused with 1, 2, 3, 11, 12, 13, 4, 5, 6, 7, 8, 16, 10, 14, 15.
+ */
+kf_answer kf_settle(const uint32_t *source, size_t source_length, uint32_t *target, size_t target_length, uint32_t row,
+                    uint32_t choice, uint32_t mark);
+
+/*
+ * Shows all rows beneath a folder. Counts the words of that part of the table, which starts at
+ * table + KF_ROW(row + 1); an empty folder counts 0.
+ * Refused with 1, 2, 3, 8.
+ */
+kf_answer kf_beneath(const uint32_t *table, size_t table_length, uint32_t row);
+
+/*
+ * Shows the row that stands if the source is passed to the target: the source's where the rules say copy or
+ * remove, else the target's. Counts its words: KF_WIDTH, or 0 on a conflict. Changes nothing.
+ * Refused with 1, 2, 3, 11, 12, 13, 4, 5, 6, 7, 8, 10.
+ */
+kf_answer kf_standing(const uint32_t *source, size_t source_length, const uint32_t *target, size_t target_length,
+                      uint32_t row);
+
+/*
+ * In whose table that row lies, at KF_ROW(row): KF_SOURCE or KF_TARGET, and KF_NEITHER on a conflict or a refusal.
+ */
+uint32_t kf_standing_side(const uint32_t *source, size_t source_length, const uint32_t *target, size_t target_length,
+                          uint32_t row);
+
+#ifdef __cplusplus
+}
+#endif
+
+#endif

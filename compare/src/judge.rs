@@ -1,0 +1,194 @@
+//! Two programs held against each other, call by call, and a count of what was seen.
+
+use std::cell::{Cell, RefCell};
+
+use crate::call::{perform, Call, Lent, Outcome};
+use crate::layout::{at, word};
+use crate::program::Program;
+
+/// How often each thing was seen.
+#[derive(Clone, Debug, Default, PartialEq, Eq)]
+pub struct Tally {
+    /// By call, in the order of `Call::ALL`, and by number.
+    pub numbers: [[u64; 18]; 7],
+    /// By kind in the source, kind in the target and answer, of the sheets of passes.
+    pub sheets: [[[u64; 4]; 3]; 3],
+    /// Walked and passed over, of the folders of passes.
+    pub folders: [u64; 2],
+    /// By side, of the calls for the row that stands that succeeded.
+    pub sides: [u64; 3],
+}
+
+impl Tally {
+    /// How often a call gave a number.
+    pub fn given(&self, call: Call, number: u32) -> u64 {
+        self.numbers[call as usize][number as usize]
+    }
+
+    /// How many calls were made.
+    pub fn calls(&self) -> u64 {
+        self.numbers.iter().flatten().sum()
+    }
+
+    fn add(&mut self, call: Call, before: &Lent, outcome: &Outcome) {
+        self.numbers[call as usize][outcome.answer.number as usize] += 1;
+        match (call, outcome.answer.number) {
+            (Call::Pass, 0) => {
+                let start = before.row as usize;
+                for (row, &answer) in (start..).zip(&outcome.lent.answers) {
+                    self.add_row(before, row, answer as usize);
+                }
+            }
+            (Call::Standing, 0) => self.sides[outcome.side as usize] += 1,
+            _ => (),
+        }
+    }
+
+    fn add_row(&mut self, before: &Lent, row: usize, answer: usize) {
+        let kind = |table: &[u32]| at(table, row, word::KIND) as usize;
+        match answer {
+            0..=3 => self.sheets[kind(&before.source)][kind(&before.target)][answer] += 1,
+            _ => self.folders[answer - 4] += 1,
+        }
+    }
+}
+
+/// A call on which the programs differ, or that one of them may not answer so.
+#[derive(Clone, Debug)]
+pub struct Failure {
+    /// The call.
+    pub call: Call,
+    /// What was lent and told to it.
+    pub lent: Lent,
+}
+
+/// Holds a program against the second one.
+pub struct Judge {
+    program: Program,
+    second: Program,
+    tally: RefCell<Tally>,
+    turn: Cell<usize>,
+}
+
+impl Judge {
+    /// Holds this program against that one.
+    pub fn new(program: Program, second: Program) -> Judge {
+        Judge {
+            program,
+            second,
+            tally: RefCell::default(),
+            turn: Cell::new(0),
+        }
+    }
+
+    /// What has been seen so far.
+    pub fn tally(&self) -> Tally {
+        self.tally.borrow().clone()
+    }
+
+    /// Makes the call on both sides. Gives the common outcome.
+    pub fn call(&self, call: Call, lent: &Lent) -> Result<Outcome, Failure> {
+        self.turn.set(self.turn.get() + 1);
+        let outcome = perform(&self.program, call, lent, self.turn.get() % 8);
+        let expected = perform(&self.second, call, lent, 0);
+        if outcome == expected && faults(call, lent, &outcome).is_empty() {
+            self.tally.borrow_mut().add(call, lent, &outcome);
+            Ok(outcome)
+        } else {
+            let lent = lent.clone();
+            Err(Failure { call, lent })
+        }
+    }
+
+    /// The two numbers given, where the call fails, wherever the buffers lie. Nothing is counted.
+    pub fn failing(&self, call: Call, lent: &Lent) -> Option<(u32, u32)> {
+        let expected = perform(&self.second, call, lent, 0);
+        (0..8).find_map(|shift| {
+            let outcome = perform(&self.program, call, lent, shift);
+            let fails = outcome != expected || !faults(call, lent, &outcome).is_empty();
+            fails.then_some((outcome.answer.number, expected.answer.number))
+        })
+    }
+
+    /// What is wrong with a call, a line each.
+    pub fn complaints(&self, call: Call, lent: &Lent) -> Vec<String> {
+        let expected = perform(&self.second, call, lent, 0);
+        for shift in 0..8 {
+            let outcome = perform(&self.program, call, lent, shift);
+            let mut lines = faults(call, lent, &outcome);
+            lines.extend(self.differences(&outcome, &expected));
+            if !lines.is_empty() {
+                return lines;
+            }
+        }
+        Vec::new()
+    }
+
+    fn differences(&self, outcome: &Outcome, expected: &Outcome) -> Vec<String> {
+        let names = (self.program.name, self.second.name);
+        let mut lines = Vec::new();
+        let mut differ = |what: String, ours: u32, theirs: u32| {
+            if ours != theirs {
+                lines.push(format!("{what}: {} {ours}, {} {theirs}", names.0, names.1));
+            }
+        };
+        let (ours, theirs) = (outcome.answer, expected.answer);
+        differ("number".to_owned(), ours.number, theirs.number);
+        differ("count".to_owned(), ours.count, theirs.count);
+        differ("side".to_owned(), outcome.side, expected.side);
+        for ((name, ours), (_, theirs)) in buffers(&outcome.lent).zip(buffers(&expected.lent)) {
+            for (place, (&ours, &theirs)) in ours.iter().zip(theirs).enumerate() {
+                differ(format!("{name}[{place}]"), ours, theirs);
+            }
+        }
+        lines
+    }
+}
+
+/// The lent buffers by name.
+fn buffers(lent: &Lent) -> impl Iterator<Item = (&'static str, &Vec<u32>)> {
+    [
+        ("source", &lent.source),
+        ("target", &lent.target),
+        ("plan", &lent.plan),
+        ("answers", &lent.answers),
+    ]
+    .into_iter()
+}
+
+/// What no outcome may be, whatever another program says.
+fn faults(call: Call, before: &Lent, outcome: &Outcome) -> Vec<String> {
+    let refused = outcome.answer.number != 0;
+    let faults = [
+        (
+            !outcome.guards_held,
+            "a word outside the lent buffers has changed",
+        ),
+        (
+            !call.numbers().contains(&outcome.answer.number),
+            "this call can't give this number",
+        ),
+        (
+            refused && outcome.answer.count != 0,
+            "a refusal counts something",
+        ),
+        (
+            refused && outcome.side != 0,
+            "a refusal shows a row that stands",
+        ),
+        (
+            refused && outcome.lent != *before,
+            "a refusal has changed a word",
+        ),
+        (
+            outcome.lent.source != before.source || outcome.lent.plan != before.plan,
+            "a buffer that is only read has changed",
+        ),
+        (
+            matches!(call, Call::Check | Call::Beneath | Call::Standing) && outcome.lent != *before,
+            "a call that only reads has changed a word",
+        ),
+    ];
+    let told = faults.into_iter().filter(|(wrong, _)| *wrong);
+    told.map(|(_, words)| words.to_owned()).collect()
+}

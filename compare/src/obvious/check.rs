@@ -1,0 +1,101 @@
+//! The table check.
+
+use super::times::{covers, empty, greatest, vector, Clock, Summary, Vector, Words};
+use super::times::{FOLDER, LIVE, NEVER, WIDTH};
+
+const MOST_ROWS: usize = 256;
+const MOST_LEVELS: u32 = 16;
+
+/// The clock and the rows of sound words, or the refusal's number.
+pub fn read(table: &[u32]) -> Result<(Clock, &[Words]), u32> {
+    let (head, rows) = table.split_first_chunk::<WIDTH>().ok_or(1u32)?;
+    let (rows, rest) = rows.as_chunks::<WIDTH>();
+    let head_is_right = rest.is_empty()
+        && head[0] < 8
+        && (1..=MOST_ROWS).contains(&rows.len())
+        && head[2] as usize == rows.len()
+        && empty(&head[3..]);
+    if !head_is_right {
+        return Err(1);
+    }
+    let clock = Clock {
+        device: head[0] as usize,
+        counter: head[1],
+    };
+    if rows[0][0] != FOLDER || rows[0][1] as usize != rows.len() {
+        return Err(2);
+    }
+    let mut reader = Reader { clock, sound: true };
+    reader.folder(rows, 1, clock.above())?;
+    if reader.sound {
+        Ok((clock, rows))
+    } else {
+        Err(3)
+    }
+}
+
+/// Goes over the rows once: what breaks the order stops it, what breaks another rule is noted.
+struct Reader {
+    clock: Clock,
+    sound: bool,
+}
+
+impl Reader {
+    /// A folder with all its rows, on a level, beneath these floors.
+    fn folder(&mut self, rows: &[Words], level: u32, above: Vector) -> Result<(), u32> {
+        let row = &rows[0];
+        let floor = vector(row, 8);
+        let above = greatest(above, floor);
+        let mut summary = Summary::EMPTY;
+        let mut next = 1;
+        while next < rows.len() {
+            if level == MOST_LEVELS {
+                return Err(2);
+            }
+            let child = &rows[next];
+            let size = child[1] as usize;
+            if child[0] == FOLDER {
+                if size == 0 || size > rows.len() - next {
+                    return Err(2);
+                }
+                self.folder(&rows[next..next + size], level + 1, above)?;
+            } else {
+                if child[0] > FOLDER || size != 1 {
+                    return Err(2);
+                }
+                self.sheet(child, above);
+            }
+            summary.add(child);
+            next += size;
+        }
+        let summary = summary.with_floor(rows);
+        self.sound &=
+            empty(&row[2..8]) && floor[self.clock.device] == 0 && Summary::of(row) == summary;
+        Ok(())
+    }
+
+    /// A sheet beneath these floors.
+    #[inline(always)]
+    fn sheet(&mut self, row: &Words, above: Vector) {
+        let floor = vector(row, 8);
+        let known = greatest(above, floor);
+        let events_are_right = match row[0] {
+            NEVER => empty(&row[2..7]),
+            LIVE => {
+                is_event(row, 2)
+                    && is_event(row, 4)
+                    && covers(&known, row, 2)
+                    && covers(&known, row, 4)
+            }
+            _ => is_event(row, 2) && empty(&row[4..7]) && covers(&known, row, 2),
+        };
+        self.sound &=
+            events_are_right && row[7] == 0 && floor[self.clock.device] == 0 && empty(&row[16..]);
+    }
+}
+
+/// Whether two words name an event.
+#[inline(always)]
+fn is_event(row: &Words, word: usize) -> bool {
+    row[word] < 8 && row[word + 1] > 0
+}

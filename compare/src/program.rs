@@ -1,0 +1,62 @@
+//! The calls of a program, whichever it is, on words.
+
+use kettleflock::raw;
+pub use kettleflock::raw::Answer;
+
+/// A program of the calls.
+#[derive(Clone, Copy)]
+pub struct Program {
+    /// Its name in what is printed.
+    pub name: &'static str,
+    /// `kf_check`.
+    pub check: fn(&[u32]) -> Answer,
+    /// `kf_new`.
+    pub new: fn(u32, &[u32], &mut [u32]) -> Answer,
+    /// `kf_event`.
+    pub event: fn(&mut [u32], u32, u32, u32) -> Answer,
+    /// `kf_pass`.
+    pub pass: fn(&[u32], &mut [u32], u32, &mut [u32]) -> Answer,
+    /// `kf_settle`.
+    pub settle: fn(&[u32], &mut [u32], u32, u32, u32) -> Answer,
+    /// `kf_beneath`.
+    pub beneath: fn(&[u32], u32) -> Answer,
+    /// `kf_standing`.
+    pub standing: fn(&[u32], &[u32], u32) -> Answer,
+    /// `kf_standing_side`.
+    pub standing_side: fn(&[u32], &[u32], u32) -> u32,
+}
+
+/// The product, through its exports.
+pub const PRODUCT: Program = Program {
+    name: "product",
+    check: raw::check,
+    new: raw::new,
+    event: raw::event,
+    pass: raw::pass,
+    settle: raw::settle,
+    beneath: raw::beneath,
+    standing: raw::standing,
+    standing_side: raw::standing_side,
+};
+
+/// The second program.
+pub const SECOND: Program = Program {
+    name: "second",
+    check: |table| told(second::check(table)),
+    new: |device, plan, table| told(second::new(device, plan, table)),
+    event: |table, row, event, mark| told(second::event(table, row, event, mark)),
+    pass: |source, target, row, answers| told(second::pass(source, target, row, answers)),
+    settle: |source, target, row, choice, mark| {
+        told(second::settle(source, target, row, choice, mark))
+    },
+    beneath: |table, row| told(second::beneath(table, row).0),
+    standing: |source, target, row| told(second::standing(source, target, row).0),
+    standing_side: |source, target, row| second::standing(source, target, row).1 as u32,
+};
+
+fn told(answer: second::Answer) -> Answer {
+    Answer {
+        number: answer.number,
+        count: answer.count,
+    }
+}

@@ -1,0 +1,126 @@
+//! Made-up sound tables: no run need ever give them.
+
+use crate::layout::{
+    columns, fresh, head, known, mend, place, rows, vector, word, Vector, DEVICES, LIVE, NEVER,
+    REMOVED,
+};
+use crate::random::Random;
+
+/// What the tables of one case agree on: the tree, and how far each device has counted.
+#[derive(Clone, Debug)]
+pub struct World {
+    /// The tree.
+    pub plan: Vec<u32>,
+    /// Each device's counter.
+    pub counters: Vector,
+}
+
+/// How much a table knows.
+#[derive(Clone, Copy)]
+enum Knowledge {
+    /// Nothing of other devices.
+    Nothing,
+    /// The same at every row: it is level everywhere.
+    Level,
+    /// Everything, at every row.
+    Everything,
+    /// Something at one row in so many.
+    Here(usize),
+}
+
+impl World {
+    /// A world on this tree, its counts mostly small so that they often meet.
+    pub fn new(random: &mut Random, plan: Vec<u32>) -> World {
+        let most = random.one_of(&[1, 2, 4, 4, 4, u32::MAX]);
+        World {
+            plan,
+            counters: std::array::from_fn(|_| match random.within(0..20) {
+                0 => u32::MAX - random.within(0..2) as u32,
+                1 => random.odd_word(),
+                _ => random.up_to(most),
+            }),
+        }
+    }
+
+    /// Some table of a device in this world.
+    pub fn table(&self, random: &mut Random, device: u32) -> Vec<u32> {
+        let mut table = fresh(device, &self.plan);
+        table[head::COUNTER] = self.counters[device as usize];
+        self.know(random, &mut table);
+        let kinds = random.one_of(&[
+            &[NEVER, LIVE, REMOVED][..],
+            &[NEVER, LIVE, LIVE, LIVE],
+            &[LIVE],
+            &[LIVE, REMOVED],
+        ]);
+        for row in 0..rows(&table) {
+            if self.plan[row] == 0 {
+                happen(random, &mut table, row, kinds);
+            }
+        }
+        mend(&mut table);
+        table
+    }
+
+    /// Fills in the floors.
+    fn know(&self, random: &mut Random, table: &mut [u32]) {
+        let knowledge = match random.within(0..8) {
+            0 => Knowledge::Nothing,
+            1 | 2 => Knowledge::Level,
+            3 => Knowledge::Everything,
+            some => Knowledge::Here([1, 2, 4, 8][some - 4]),
+        };
+        for row in 0..rows(table) {
+            let here = match knowledge {
+                Knowledge::Nothing => false,
+                Knowledge::Level | Knowledge::Everything => row == 0,
+                Knowledge::Here(times) => random.once_in(times),
+            };
+            if here {
+                let floor = match knowledge {
+                    Knowledge::Everything => self.counters,
+                    _ => self.counters.map(|count| random.up_to(count)),
+                };
+                set_floor(table, row, floor);
+            }
+        }
+    }
+}
+
+/// Gives a row a floor, but for the table's own column.
+fn set_floor(table: &mut [u32], row: usize, mut floor: Vector) {
+    floor[table[head::DEVICE] as usize] = 0;
+    table[place(row, word::FLOOR)..][..DEVICES].copy_from_slice(&floor);
+}
+
+/// Something happens to a sheet, of which the table knows: it becomes one of these kinds.
+fn happen(random: &mut Random, table: &mut [u32], row: usize, kinds: &[u32]) {
+    let known = known(table, row);
+    let devices: Vec<usize> = (0..DEVICES).filter(|&device| known[device] > 0).collect();
+    let kind = random.one_of(kinds);
+    if devices.is_empty() || kind == NEVER {
+        return;
+    }
+    let mut event = |place: usize| {
+        let device = random.one_of(&devices);
+        table[place] = device as u32;
+        table[place + 1] = random.up_to(known[device] - 1) + 1;
+    };
+    event(place(row, word::STAMP));
+    if kind == LIVE {
+        event(place(row, word::BIRTH));
+        table[place(row, word::MARK)] = random.odd_word();
+    }
+    table[place(row, word::KIND)] = kind;
+}
+
+/// The table with one row that knows more than before, perhaps more than there is to know.
+pub fn knowing_more(random: &mut Random, table: &[u32]) -> Vec<u32> {
+    let mut table = table.to_vec();
+    let row = random.within(0..rows(&table));
+    let more = [random.odd_word(); DEVICES];
+    let floor = vector(&table, row, word::FLOOR);
+    set_floor(&mut table, row, columns(floor, more, u32::max));
+    mend(&mut table);
+    table
+}

@@ -127,7 +127,7 @@ fn folder_fits(r: &[u32], clock: Clock, own: Summary) -> bool
     requires { ⌜ (length (now r) ≡ width) × (clock .device < devices) ⌝ }
     ensures { λ b. ⌜ b ≡ folderBy devices clock (now (r .entry)) (vec (own .newest .0)) (vec (own .least .0)) (vec (own .most .0)) ⌝ }
 {
-    if !is_blank(&r[2..8]) {
+    if !is_blank(&r[Row::STAMP..Row::FLOOR]) {
         return false;
     }
     let device = clock.device as usize;

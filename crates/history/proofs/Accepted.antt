@@ -29,7 +29,8 @@ use Rattle.paper.proofs.Forests.{mapped-subtree, mapped-here, shape, shape-size
 use Rattle.history.proofs.Agree.{Opposed, opposed}
 use Rattle.history.proofs.Cells.{zeros-greatest}
 use Rattle.history.proofs.Summaries.{later-sheet}
-use Rattle.history.proofs.Rows.{good-subtree, good-graft, good-above, later-subtree, later-above}
+use Rattle.paper.proofs.Walks.{good-subtree, walk-shape}
+use Rattle.history.proofs.Rows.{good-graft, good-above, later-subtree, later-above}
 use Rattle.history.proofs.Keeps.{walk-good, tick-good, event-good, settle-good}
 
 -- a table changed in place: of the same device, of the same shape, every row good
@@ -97,19 +98,6 @@ module _ (w : ℕ) (a b : Table) (row : ℕ) (g : Two-good w a b row) where
   -- or name a later count
   pub above-early : above (a .tree) row (b .clock .device) ≤ b .clock .counter
   above-early = later-above (b .clock) (a .tree) row (g .six)
-
--- the walk keeps the target's shape
-pub walk-shape : (w : ℕ) (a b : Clock) (p : Pair) (ua ub : Vec) → shape (walk w a b p ua ub) ≡ shape (right p)
-unfolding walk mapped
-walk-shape w a b end ua ub = refl
-walk-shape w a b (sheet x r) ua ub = ap (sheet tt) (walk-shape w a b r ua ub)
-walk-shape w a b (folder y k r) ua ub = go (over w a b ua ub y k) (walk-shape w a b k (greatest ua (y .a)) (greatest ub (y .b))) (walk-shape w a b r ua ub)
-  where
-    go : (t : Bool) → shape (walk w a b k (greatest ua (y .a)) (greatest ub (y .b))) ≡ shape (right k) → shape (walk w a b r ua ub) ≡ shape (right r)
-        → shape (cond t (folder (raised b (y .b) (fullLeast a ua (y .a) (left k))) (right k) (walk w a b r ua ub)) (folder (y .b) (walk w a b k (greatest ua (y .a)) (greatest ub (y .b))) (walk w a b r ua ub)))
-        ≡ folder tt (shape (right k)) (shape (right r))
-    go true p q = ap (folder tt (shape (right k))) q
-    go false p q = ap₂ (folder tt) p q
 
 module _ (w : ℕ) (a b : Table) (row : ℕ) (g : Two-good w a b row) where
   -- a pass keeps the shape

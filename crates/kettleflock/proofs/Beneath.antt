@@ -1,26 +1,23 @@
 -- The rows beneath a folder: what refuses to show them, by the tests that were made, and where they stand in the table.
 use Prim.Native.Nat.{ℕ, zero, suc, _+_, _-_, _*_, _≤_, _<_}
 use mathlib.Core.Path.{_≡_, refl, sym, ap, ap₂, _∙_}
-use mathlib.Core.List.{List, [], _∷_, _++_}
-use mathlib.Core.Bool.{Bool, true, false, not, _||_, cond, false≢true}
+use mathlib.Core.List.{List, [], _∷_}
+use mathlib.Core.Bool.{Bool, true, false, not, _||_, cond}
 use native.Mathlib.Omega.{arith}
 use native.Mathlib.Nat.{add-mul, mul-le-mul-right}
 use lib.Dec.{eqb, leb, ltb}
 use borrow.Author.Tests.{ltb-true, ltb-false, leb-false}
-use lib.ListN.{length, getD, take, drop, length-take, List·getD-append}
-use lib.Seq.{getD-append-add}
-use Rattle.paper.specs.Tree.{Forest, end, sheet, folder, mapped, size, subtree, sheetHere}
-use Rattle.paper.specs.Order.{kindWord, sizeWord, Raw, forestOf}
-use Rattle.paper.specs.Words.{wide, sheetOf, floorOf, tableOf}
+use lib.ListN.{length, getD, take, drop, length-take}
+use Rattle.paper.specs.Tree.{Forest, end, sheet, folder, size, subtree, sheetHere}
+use Rattle.paper.specs.Words.{wide, tableOf}
 use Rattle.paper.specs.Refusals.{first, when}
 use Rattle.paper.specs.Check.{checkOf}
-use Rattle.paper.specs.Calls.{Answered, rowAt, isFolder, beneathRefused, beneathPart, beneathOf}
+use Rattle.paper.specs.Calls.{Answered, isFolder, beneathRefused, beneathPart, beneathOf}
 use Rattle.paper.proofs.Refusals.{first-both, first-here, when-none, unless-none, unless-some}
-use Rattle.paper.proofs.Forests.{mapped-size, mapped-subtree, subtree-fits}
-use Rattle.paper.proofs.Formed.{Formed, ordered-formed}
+use Rattle.paper.proofs.Forests.{subtree-fits}
 use Rattle.paper.proofs.Tables.{check-facts, checked-size}
-use Rattle.pair.proofs.Listed.{listed, length-listed, rows-at, rows-all, word-at}
-use Rattle.pair.proofs.SheetAt.{folder-row}
+use Rattle.pair.proofs.Listed.{word-at}
+use Rattle.ruled.proofs.SheetAt.{folder-row}
 use Rattle.pair.proofs.Sizes.{size-word}
 use Rattle.kettleflock.specs.Sides.{wordAt, beneathFrom}
 

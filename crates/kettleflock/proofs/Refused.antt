@@ -1,27 +1,25 @@
--- The refusals of an event, by what the code reads.
-use Prim.Native.Nat.{ℕ, _+_, _-_, _*_, _≤_, _<_}
+-- The refusals of an event and of a pass, by the tests that were made.
+use Prim.Native.Nat.{ℕ, _+_, _*_, _≤_, _<_}
 use mathlib.Core.Path.{_≡_, refl, sym, ap, _∙_}
 use mathlib.Core.Bool.{Bool, true, false, not, cond}
 use mathlib.Core.List.{List, [], _∷_}
-use mathlib.Core.Option.{none, some}
+use mathlib.Core.Option.{none, some, Option·map}
 use native.Mathlib.Omega.{arith}
-use native.Mathlib.Nat.{add-mul}
 use lib.Dec.{eqb, leb, ltb}
 use borrow.Author.Tests.{eq-eqb, ne-eqb, lt-ltb, le-leb, leb-true, ltb-true}
-use lib.ListN.{getD, drop}
-use lib.Seq.{getD-take, getD-drop}
+use lib.ListN.{length, getD}
 use Rattle.paper.specs.Acts.{Event, changes, removes, fits, isLive}
 use Rattle.paper.specs.Rules.{never, live, removed}
-use Rattle.paper.specs.Tree.{end, sheet, folder, mapped, subtree, sheetHere, size}
-use Rattle.paper.specs.Order.{kindWord, Raw, forestOf, wordsOf}
-use Rattle.paper.specs.Words.{wide, kindOf, rowOf, sheetOf, floorOf, treeFrom, tableOf}
+use Rattle.paper.specs.Tree.{subtree, sheetHere, size}
+use Rattle.paper.specs.Order.{kindWord}
+use Rattle.paper.specs.Words.{wide, kindOf, rowOf, sheetOf, tableOf}
 use Rattle.paper.specs.Refusals.{first, when}
 use Rattle.paper.specs.Check.{checkOf}
-use Rattle.paper.specs.Calls.{oneToThree, eventNamed, fitsSheet, lastCount, eventRefused}
-use Rattle.paper.proofs.Tables.{Checked, check-facts, checked-size}
-use Rattle.paper.proofs.Formed.{Formed, ordered-formed, ordered-words}
-use Rattle.paper.proofs.Forests.{mapped-size, mapped-subtree}
-use Rattle.mend.proofs.Subtrees.{rowIn, sheet-at}
+use Rattle.paper.specs.Calls.{rowAt, oneToThree, eventNamed, fitsSheet, lastCount, eventRefused, twoRefused, passRefused}
+use Rattle.paper.proofs.Refusals.{first-here}
+use Rattle.paper.proofs.Tables.{check-facts, checked-size}
+use Rattle.pair.proofs.Listed.{word-at}
+use Rattle.ruled.proofs.SheetAt.{sheet-row}
 
 -- an event by its number, and the kinds that it fits
 pub fits-one : (n k : ℕ) → n ≡ 1 → fits (eventNamed n) (kindOf k) ≡ not (eqb k 1)
@@ -45,50 +43,22 @@ fits-other n k e = rw (ne-eqb _ _ e) (go (eqb n 2) (eqb k 1) (eqb k 2))
     go false false true = refl
     go false false false = refl
 
--- a sheet among rows, and in the tree that they write down
-sheet-mapped : (w : ℕ) (e : Event) (f : Raw) (b : Bool) (r : List ℕ) → sheetHere f ≡ cond b none (some r) → fitsSheet e (sheetHere (treeFrom w f)) ≡ cond b false (fits e (kindOf (kindWord r)))
-unfolding sheetHere mapped fitsSheet rowOf
-sheet-mapped w e end true r q = refl
-sheet-mapped w e end false r q = let z : _≡_ {A = ℕ} 0 1 = cc in absurd (omega arith)
-sheet-mapped w e (sheet x s) true r q = let z : _≡_ {A = ℕ} 0 1 = cc in absurd (omega arith)
-sheet-mapped w e (sheet x s) false r q = let z : x ≡ r = cc in ap (λ y. fits e (kindOf (kindWord y))) z
-sheet-mapped w e (folder x k s) true r q = refl
-sheet-mapped w e (folder x k s) false r q = let z : _≡_ {A = ℕ} 0 1 = cc in absurd (omega arith)
-
+-- does an event fit what stands at a row? The row's kind word tells
 module _ (w : ℕ) (t : List ℕ) (c : checkOf w t ≡ 0) where
-  checked : Checked w t
-  checked = check-facts w t c
-
-  abbrev n : ℕ
-  n = wide w
-
-  abbrev raw : Raw
-  raw = forestOf n (drop n t)
-
-  raw-formed : Formed n 16 raw
-  raw-formed = ordered-formed n (omega arith) 16 (drop n t) (checked .order)
-
   pub rows-are : size (tableOf w t .tree) ≡ getD t 2 0
-  rows-are = checked-size w t checked
+  rows-are = checked-size w t (check-facts w t c)
 
-  row-kind : (row : ℕ) → kindWord (rowIn n raw row) ≡ getD t ((row + 1) * n) 0
-  row-kind row =
-      let z : n + row * n ≡ (row + 1) * n = omega (arith, add-mul row 1 n) in
-      getD-take n (drop (row * n) (wordsOf raw)) 0 0 (omega arith)
-      ∙ getD-drop (row * n) (wordsOf raw) 0 0
-      ∙ ap (λ l. getD l (row * n + 0) 0) (ordered-words n (omega arith) 16 (drop n t) (checked .order))
-      ∙ getD-drop n t (row * n + 0) 0
-      ∙ ap (λ i. getD t i 0) (omega (arith, z))
-
-  -- does the event fit what stands at the row? The row's kind word tells
   pub fits-row : (e : Event) (row : ℕ) → row < getD t 2 0
-      → fitsSheet e (sheetHere (subtree (tableOf w t .tree) row)) ≡ cond (eqb (getD t ((row + 1) * n) 0) 3) false (fits e (kindOf (getD t ((row + 1) * n) 0)))
-  unfolding tableOf
+      → fitsSheet e (sheetHere (subtree (tableOf w t .tree) row)) ≡ cond (eqb (getD t ((row + 1) * wide w) 0) 3) false (fits e (kindOf (getD t ((row + 1) * wide w) 0)))
+  unfolding fitsSheet rowOf
   fits-row e row h =
-      let m = mapped-size (sheetOf w) (floorOf w) raw in
-      ap (λ f. fitsSheet e (sheetHere f)) (sym (mapped-subtree (sheetOf w) (floorOf w) raw row))
-      ∙ sheet-mapped w e (subtree raw row) (eqb (kindWord (rowIn n raw row)) 3) (rowIn n raw row) (sheet-at n 16 raw row raw-formed (omega (arith, m, rows-are)))
-      ∙ ap (λ k. cond (eqb k 3) false (fits e (kindOf k))) (row-kind row)
+      let z : (row + 1) * wide w + 0 ≡ (row + 1) * wide w = omega arith in
+      ap (fitsSheet e) (sheet-row w t c row h) ∙ go (eqb (kindWord (rowAt w t row)) 3)
+      ∙ ap (λ k. cond (eqb k 3) false (fits e (kindOf k))) (word-at w t row 0 (omega arith) ∙ ap (λ i. getD t i 0) z)
+    where
+      go : (b : Bool) → fitsSheet e (Option·map (sheetOf w) (cond b none (some (rowAt w t row)))) ≡ cond b false (fits e (kindOf (kindWord (rowAt w t row))))
+      go true = refl
+      go false = refl
 
 -- the refusals by their tests
 pub refused-by : (w : ℕ) (t : List ℕ) (row event : ℕ) (a b c d : Bool) → checkOf w t ≡ 0 → oneToThree event ≡ a → leb (size (tableOf w t .tree)) row ≡ b
@@ -116,3 +86,13 @@ named-not n h = go (ltb 0 n) (leb n 3) refl refl
 pub named-so : (n : ℕ) → 0 < n → n ≤ 3 → oneToThree n ≡ true
 unfolding oneToThree
 named-so n p q = rw (lt-ltb _ _ p, le-leb _ _ q)
+
+-- A PASS: the refusal of the two tables first, then 9 by the list's length
+module _ (w : ℕ) (s t : List ℕ) (row : ℕ) (list : List ℕ) where
+  pub pass-two : (twoRefused w s t row ≡ 0 → ⊥) → passRefused w s t row list ≡ twoRefused w s t row
+  unfolding passRefused
+  pass-two h = first-here (twoRefused w s t row) _ h
+
+  pub pass-by : twoRefused w s t row ≡ 0 → (b : Bool) → b ≡ eqb (length list) (size (subtree (tableOf w t .tree) row)) → first (when (not b) 9 ∷ []) ≡ passRefused w s t row list
+  unfolding passRefused first
+  pass-by e b p = rw (e, sym p)

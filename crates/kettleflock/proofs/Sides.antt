@@ -1,13 +1,13 @@
 -- The row that stands: on which side it lies, and the part that it is.
-use Prim.Native.Nat.{ℕ, zero, suc, _+_, _-_, _*_, _≤_}
+use Prim.Native.Nat.{ℕ, zero, suc, _+_, _*_, _≤_}
 use mathlib.Core.Path.{_≡_, refl, sym, ap, ap₂, _∙_}
-use mathlib.Core.List.{List, [], _∷_}
+use mathlib.Core.List.{List, []}
 use mathlib.Core.Bool.{Bool, true, false, cond}
 use mathlib.Core.Option.{Option, none, some}
 use native.Mathlib.Omega.{arith}
 use lib.Dec.{eqb}
 use borrow.Author.Tests.{eq-eqb, ne-eqb}
-use lib.ListN.{length, take, drop, length-drop}
+use lib.ListN.{length, drop, length-drop}
 use lib.Seq.{length-take-le}
 use Rattle.paper.specs.declared.Ruling.{Ruling}
 use Rattle.paper.specs.declared.Ruling.the-variants.{KeepOwn, KeepTheirs, Copy, Remove, Conflict}
@@ -15,9 +15,10 @@ use Rattle.paper.specs.Words.{wide, tableOf}
 use Rattle.paper.specs.Refusals.{first, when, unless}
 use Rattle.paper.specs.Calls.{Answered, rowAt, isFolder, rulingHere, twoRefused, standingRefused, stands, standingPart, standingOf}
 use Rattle.paper.proofs.Refusals.{first-both, unless-none, unless-some}
-use Rattle.pair.proofs.Chains.{standing-two, standing-by}
+use Rattle.ruled.proofs.Chains.{standing-two, standing-by}
 use Rattle.pair.proofs.Refusing.{two-room}
-use Rattle.kettleflock.specs.Sides.{side, sideOf, wordAt, standingAt}
+use Rattle.ruled.specs.SaidOf.{side}
+use Rattle.kettleflock.specs.Sides.{sideOf, wordAt, standingAt}
 
 -- x, a or b, by a side
 abbrev pub chosen : {X : Type 0} → ℕ → X → X → X → X

@@ -3,21 +3,10 @@ use Prim.Native.Nat.{ℕ, _+_, _*_}
 use mathlib.Core.List.{List}
 use mathlib.Core.Bool.{cond}
 use lib.Dec.{eqb}
-use mathlib.Core.Option.{Option, none, some}
-use Rattle.paper.specs.declared.Ruling.{Ruling}
-use Rattle.paper.specs.declared.Ruling.the-variants.{KeepOwn, KeepTheirs, Copy, Remove, Conflict}
 use Rattle.paper.specs.Words.{wide, tableOf}
 use Rattle.paper.specs.Refusals.{unless}
 use Rattle.paper.specs.Calls.{rulingHere, beneathRefused, standingRefused}
-
--- 1 the source's where the rules say copy or remove, 2 the target's where they say keep, 0 none on a conflict
-unfoldable pub side : Option Ruling → ℕ
-side none = 0
-side (some KeepOwn) = 2
-side (some KeepTheirs) = 2
-side (some Copy) = 1
-side (some Remove) = 1
-side (some Conflict) = 0
+use Rattle.ruled.specs.SaidOf.{side}
 
 -- none on a refusal
 unfoldable pub sideOf : ℕ → List ℕ → List ℕ → ℕ → ℕ

@@ -4,7 +4,7 @@ pub mod pass;
 pub mod settling;
 pub mod showing;
 
-use mend::event::make_event;
+use event::make_event;
 use plan::plan_fits;
 use plan::write_table;
 use vector::Vector;

@@ -1,10 +1,8 @@
 // A pass: for each sheet of a subtree what the target must do, and its times brought up to date.
 use crate::Answer;
-use pair::refused::clock_of;
+use mend::pass::make_pass;
 use pair::refused::two_refused;
-use vector::Vector;
 use vector::row::Row;
-use walk::start::pass_at;
 ghost use mathlib.Core.Path.{_≡_};
 ghost use Rattle.paper.specs.Calls.{Passed, passRefused, passOf};
 ghost use Rattle.vector.specs.Width.{devices};
@@ -32,21 +30,6 @@ pub fn pass(source: &[u32], target: &mut [u32], row: u32, answers: &mut [u32]) -
     if number != 0 {
         return Answer { number, count: 0 };
     }
-    let a = clock_of(source);
-    let b = clock_of(target);
-    let none = Vector::zeros();
-    let walked = pass_at(
-        &source[Row::WIDTH..],
-        &mut target[Row::WIDTH..],
-        answers,
-        row as usize,
-        a,
-        b,
-        none,
-        none,
-    );
-    Answer {
-        number: 0,
-        count: walked.looked as u32,
-    }
+    let count = make_pass(source, target, row as usize, answers);
+    Answer { number: 0, count }
 }

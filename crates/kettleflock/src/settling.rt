@@ -1,7 +1,7 @@
 // Settling a conflict at one row.
 use crate::Answer;
-use mend::settle::make_settle;
-use pair::standing::settle_refused;
+use ruled::standing::settle_refused;
+use settle::make_settle;
 ghost use mathlib.Core.Path.{_≡_};
 ghost use Rattle.paper.specs.Calls.{Changed, settleOf};
 ghost use Rattle.vector.specs.Width.{devices};

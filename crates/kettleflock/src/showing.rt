@@ -2,17 +2,15 @@
 // lies in. The number and the count come from one call, the part alone from another.
 use crate::Answer;
 use pair::refused::two_refused;
-use pair::ruling::Said;
-use pair::ruling::ruling_at;
-use pair::standing::standing_refused;
-use paper::Ruling;
+use ruled::ruling::ruling_at;
+use ruled::ruling::side_of;
+use ruled::standing::standing_refused;
 use vector::row::Row;
 ghost use mathlib.Core.Path.{_≡_};
 ghost use Prim.Native.Nat.{_+_, _*_};
 ghost use Rattle.paper.specs.Calls.{Answered, beneathRefused, beneathPart, beneathOf, standingPart, standingOf};
 ghost use Rattle.vector.specs.Width.{devices, width};
-ghost use Rattle.pair.specs.SaidOf.{saidOf};
-ghost use Rattle.kettleflock.specs.Sides.{side, sideOf, wordAt, beneathFrom, standingAt};
+ghost use Rattle.kettleflock.specs.Sides.{sideOf, wordAt, beneathFrom, standingAt};
 
 // The first refusal of a showing of the rows beneath a folder: 1, 2, 3, 8.
 fn beneath_refused(table: &[u32], row: u32) -> u32
@@ -67,22 +65,6 @@ pub fn beneath_answer(table: &[u32], row: u32) -> Answer
     Answer {
         number: 0,
         count: part.len() as u32,
-    }
-}
-
-// In which table the row that stands lies, by what the rules say: 1 the source's, 2 the target's, 0 in none.
-fn side_of(said: Said) -> u32
-    ensures { λ r. ⌜ r ≡ side (saidOf said) ⌝ }
-{
-    match said {
-        Said::Folder => 0,
-        Said::Sheet(ruling) => match ruling {
-            Ruling::KeepOwn => 2,
-            Ruling::KeepTheirs => 2,
-            Ruling::Copy => 1,
-            Ruling::Remove => 1,
-            Ruling::Conflict => 0,
-        },
     }
 }
 

@@ -5,6 +5,7 @@ pub mod Forests
 pub mod Formed
 pub mod Blank
 pub mod Rows
+pub mod Walks
 pub mod Refusals
 pub mod Check
 pub mod Tables

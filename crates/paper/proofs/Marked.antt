@@ -153,6 +153,8 @@ cases =
     } ∷
     list (settled-K ++ (pass 1 2 0 ∷ [])) 0 2 0 (5 ∷ 5 ∷ 0 ∷ 0 ∷ 0 ∷ []) ∷
     list (settled-K ++ (pass 1 2 0 ∷ [])) 0 2 1 (5 ∷ 0 ∷ 0 ∷ []) ∷
+    -- besides A to K: a removal that reaches a device by another than it was made on
+    list (event 0 2 1 700 ∷ pass 0 2 0 ∷ event 0 2 3 0 ∷ pass 0 1 0 ∷ []) 1 2 0 (4 ∷ 4 ∷ 2 ∷ 0 ∷ 0 ∷ []) ∷
     []
 
 -- A TO K

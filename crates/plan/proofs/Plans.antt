@@ -10,7 +10,7 @@ use borrow.Author.Tests.{lt-ltb, le-leb, leb-true, leb-false, lt-leb, eq-eqb, ne
 use lib.ListN.{length, getD, take, drop, replicate, length-append, length-drop, drop-of-length-le}
 use lib.Seq.{take-at, take-append-add, drop-append-add}
 use borrow.Rule.Slice.PartMut.{putMid}
-use Rattle.table.proofs.Parts.{tail-length}
+use Rattle.vector.proofs.Parts.{tail-length}
 use Rattle.paper.specs.Order.{kindWord, sizeWord, after, rowFits, ordered}
 use Rattle.paper.specs.Words.{wide}
 use Rattle.paper.specs.Columns.{zeros, columns}

@@ -9,13 +9,13 @@ use lib.ListN.{length, getD, take, drop, set}
 use Rattle.paper.specs.declared.Ruling.{Ruling}
 use Rattle.paper.specs.declared.Clock.{Clock}
 use Rattle.paper.specs.Columns.{Vec, full, covered, alike, part, columns}
-use Rattle.paper.specs.Rules.{numberOf, takes}
+use Rattle.paper.specs.Rules.{takes}
 use Rattle.paper.specs.Tree.{Sheet}
-use Rattle.paper.specs.Walk.{Two, raised, ruleAt, ruled}
+use Rattle.paper.specs.Walk.{Two, raised, ruled}
 use Rattle.paper.specs.Words.{floorAt, newestAt, leastAt, mostAt, floorOf, sheetOf}
 use Rattle.vector.specs.Width.{devices, width}
 use Rattle.vector.specs.Places.{put}
-use Rattle.vector.specs.Sums.{Sums, sumsAlone, sumsRow, Mended}
+use Rattle.summary.specs.Sums.{sumsRow, mended}
 
 -- what the leaves take for granted: two whole rows, and devices that are columns
 pub record Rows (s t : List ℕ) (a b : Clock) : Type 0 where
@@ -23,13 +23,6 @@ pub record Rows (s t : List ℕ) (a b : Clock) : Type 0 where
   pub target : width ≤ length t
   pub deviceA : a .device < devices
   pub deviceB : b .device < devices
-
--- for a sheet: a place for its answer, and stamps whose devices are columns
-pub record SheetRows (s t : List ℕ) (a b : Clock) (places : ℕ) : Type 0 where
-  pub rows : Rows s t a b
-  pub answer : 1 ≤ places
-  pub stampA : getD s 2 0 < devices
-  pub stampB : getD t 2 0 < devices
 
 -- t with what stands at s: words 0 and 2 to 7
 unfoldable pub takenFrom : List ℕ → List ℕ → List ℕ
@@ -67,17 +60,13 @@ module _ (w : ℕ) where
         covered w (part w (newestAt w) s) (full b ub (part w (leastAt w) t))
         && alike w (full a ua (part w (leastAt w) s)) (full a ua (part w (mostAt w) s))
 
-    -- the row of a folder that is passed over, its floor raised by A's full least and its summaries not yet put right
-    unfoldable pub overFloor : Vec → List ℕ → List ℕ → List ℕ
-    overFloor ua s t = floored (raised b (floorOf w t) (full a ua (part w (leastAt w) s))) t
-
--- what is promised of a sheet's row: its answer, its words, and what it then comes to
-pub record SheetDone (w : ℕ) (a b : Clock) (ua ub : Vec) (s t answers t′ answers′ : List ℕ) (all : Sums) : Type 0 where
-  pub answer : answers′ ≡ set answers 0 (numberOf (ruleAt a b ua ub (sheetsOf w s t)))
-  pub words : t′ ≡ ruledRow w a b ua (ruleAt a b ua ub (sheetsOf w s t)) s t
-  pub sums : all ≡ sumsAlone (sheetOf w t′)
+    -- the row of a folder that is passed over: its floor raised by A's full least, and then its summaries put right by those in the row
+    unfoldable pub overRow : Vec → List ℕ → List ℕ → List ℕ
+    overRow ua s t =
+        let t′ = floored (raised b (floorOf w t) (full a ua (part w (leastAt w) s))) t in
+        mended w (sumsRow w t′) t′
 
 -- what is promised of the row of a folder that is passed over, in a part with rows of n words
-pub record OverDone (w n : ℕ) (a b : Clock) (ua : Vec) (s t t′ answers′ : List ℕ) (places : ℕ) (all : Sums) : Type 0 where
+pub record OverDone (w n : ℕ) (a b : Clock) (ua : Vec) (s t t′ answers′ : List ℕ) (places : ℕ) : Type 0 where
   pub answers : answers′ ≡ columns places (silentAt n s)
-  pub row : Mended w (sumsRow w (overFloor w a b ua s t)) (overFloor w a b ua s t) t′ all
+  pub row : t′ ≡ overRow w a b ua s t

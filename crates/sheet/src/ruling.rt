@@ -11,59 +11,60 @@ ghost use Rattle.paper.specs.Rules.{rule, ruling, numberOf, takes, joins};
 ghost use Rattle.paper.specs.Words.{kindOf, rowOf};
 ghost use Rattle.vector.specs.Width.{width};
 
-// What source A and target B have heard of each other's events: is A's stamp, is A's birth known to B, is B's stamp, is
-// B's birth known to A?
+// Has one side heard of the other's stamp, and of its birth?
 pub struct Heard {
-    pub stamp_a: bool,
-    pub birth_a: bool,
-    pub stamp_b: bool,
-    pub birth_b: bool,
+    pub stamp: bool,
+    pub birth: bool,
 }
 
-// The first rule that fits, by the two rows' kinds.
-fn decide(a: u32, b: u32, heard: Heard) -> Ruling
-    ensures { λ r. ⌜ r ≡ rule (kindOf a) (kindOf b) (record { stampA = heard .«stamp_a»; birthA = heard .«birth_a»; stampB = heard .«stamp_b»; birthB = heard .«birth_b» }) ⌝ }
+// What a side with this known time has heard of the other's row.
+fn hears(known: Vector, row: &[u32]) -> Heard
+    requires { ⌜ width ≤ length (now row) ⌝ }
+    ensures { λ r. ⌜ (r .stamp ≡ covers (vec (known .0)) (rowOf (now (row .entry)) .stamp)) × (r .birth ≡ covers (vec (known .0)) (rowOf (now (row .entry)) .birth)) ⌝ }
 {
-    if heard.stamp_a {
+    let stamp = known.knows(Stamp::of(row[Row::STAMP], row[Row::STAMP + 1]));
+    let birth = known.knows(Stamp::of(row[Row::BIRTH], row[Row::BIRTH + 1]));
+    Heard { stamp, birth }
+}
+
+// The first rule that fits, by the two rows' kinds, by what B has heard of A's row, and A of B's.
+fn decide(a: u32, b: u32, ha: Heard, hb: Heard) -> Ruling
+    ensures { λ r. ⌜ r ≡ rule (kindOf a) (kindOf b) (record { stampA = ha .stamp; birthA = ha .birth; stampB = hb .stamp; birthB = hb .birth }) ⌝ }
+{
+    if ha.stamp {
         return Ruling::KeepOwn;
     }
     if a == 1 {
-        if b == 1 {
-            if heard.stamp_b {
-                Ruling::Copy
-            } else {
-                Ruling::Conflict
-            }
-        } else if b == 2 {
-            if heard.stamp_b {
-                Ruling::Copy
-            } else if heard.birth_a {
-                Ruling::Conflict
-            } else {
-                Ruling::Copy
-            }
-        } else {
-            Ruling::Copy
+        if hb.stamp {
+            return Ruling::Copy;
         }
-    } else if a == 2 {
         if b == 1 {
-            if heard.birth_b {
-                if heard.stamp_b {
-                    Ruling::Remove
-                } else {
-                    Ruling::Conflict
-                }
-            } else {
-                Ruling::KeepOwn
-            }
-        } else if b == 2 {
-            Ruling::KeepOwn
-        } else {
-            Ruling::KeepTheirs
+            return Ruling::Conflict;
         }
-    } else {
-        Ruling::KeepOwn
+        if b == 2 {
+            if ha.birth {
+                return Ruling::Conflict;
+            }
+            return Ruling::Copy;
+        }
+        return Ruling::Copy;
     }
+    if a == 2 {
+        if b == 1 {
+            if hb.birth {
+                if hb.stamp {
+                    return Ruling::Remove;
+                }
+                return Ruling::Conflict;
+            }
+            return Ruling::KeepOwn;
+        }
+        if b == 2 {
+            return Ruling::KeepOwn;
+        }
+        return Ruling::KeepTheirs;
+    }
+    Ruling::KeepOwn
 }
 
 // The number of a ruling.
@@ -110,15 +111,7 @@ pub fn judge(s: &[u32], t: &[u32], ka: Vector, kb: Vector) -> Ruling
     requires { ⌜ (width ≤ length (now s)) × (width ≤ length (now t)) ⌝ }
     ensures { λ r. ⌜ r ≡ ruling covers (record { row = rowOf (now (s .entry)); known = vec (ka .0) }) (record { row = rowOf (now (t .entry)); known = vec (kb .0) }) ⌝ }
 {
-    let stamp_a = kb.knows(Stamp::of(s[Row::STAMP], s[Row::STAMP + 1]));
-    let birth_a = kb.knows(Stamp::of(s[Row::BIRTH], s[Row::BIRTH + 1]));
-    let stamp_b = ka.knows(Stamp::of(t[Row::STAMP], t[Row::STAMP + 1]));
-    let birth_b = ka.knows(Stamp::of(t[Row::BIRTH], t[Row::BIRTH + 1]));
-    let heard = Heard {
-        stamp_a,
-        birth_a,
-        stamp_b,
-        birth_b,
-    };
-    decide(s[Row::KIND], t[Row::KIND], heard)
+    let ha = hears(kb, s);
+    let hb = hears(ka, t);
+    decide(s[Row::KIND], t[Row::KIND], ha, hb)
 }

@@ -1,4 +1,5 @@
 // The row of a sheet.
+use crate::full::full_at;
 use crate::ruling::is_joined;
 use crate::ruling::is_taken;
 use crate::ruling::judge;
@@ -6,18 +7,16 @@ use crate::ruling::number;
 use paper::Clock;
 use vector::Vector;
 use vector::row::Row;
-use vector::summary::Summary;
 ghost use mathlib.Core.Path.{_≡_};
 ghost use mathlib.Core.Bool.{cond};
 ghost use Prim.Native.Nat.{_≤_, _<_};
-ghost use lib.ListN.{length, set};
+ghost use lib.ListN.{length};
 ghost use Rattle.paper.specs.Columns.{vec};
 ghost use Rattle.paper.specs.Rules.{numberOf};
 ghost use Rattle.paper.specs.Walk.{raised, ruleAt};
 ghost use Rattle.paper.specs.Words.{floorOf};
 ghost use Rattle.vector.specs.Width.{devices, width};
-ghost use Rattle.vector.specs.Sums.{said};
-ghost use Rattle.sheet.specs.Leaves.{Rows, SheetRows, SheetDone, takenFrom, sheetsOf, floored, ruledRow};
+ghost use Rattle.sheet.specs.Leaves.{Rows, takenFrom, sheetsOf, floored, ruledRow};
 
 // What stands at row s taken to row t, where `yes`.
 pub fn take_row(yes: bool, s: &[u32], t: &mut [u32])
@@ -49,31 +48,12 @@ pub fn pass_sheet(s: &[u32], t: &mut [u32], a: Clock, b: Clock, ua: Vector, ub: 
     requires { ⌜ Rows (now s) (now t) a b ⌝ }
     ensures { λ n. ⌜ (n ≡ numberOf (ruleAt a b (vec (ua .0)) (vec (ub .0)) (sheetsOf devices (now (s .entry)) (now (t .entry))))) × (now (t .exit) ≡ ruledRow devices a b (vec (ua .0)) (ruleAt a b (vec (ua .0)) (vec (ub .0)) (sheetsOf devices (now (s .entry)) (now (t .entry)))) (now (s .entry)) (now (t .entry))) ⌝ }
 {
-    let floor_a = Vector::read(s, Row::FLOOR);
-    let floor_b = Vector::read(t, Row::FLOOR);
-    let ka = floor_a.full(ua, a);
-    let kb = floor_b.full(ub, b);
+    let ka = full_at(s, Row::FLOOR, ua, a);
+    let kb = full_at(t, Row::FLOOR, ub, b);
     let r = judge(s, t, ka, kb);
     let joined = is_joined(r);
     let taken = is_taken(r);
     raise_floor(joined, t, b, ka);
     take_row(taken, s, t);
     number(r)
-}
-
-// The row of a sheet, with its answer; what it comes to afterwards.
-pub fn sheet_row(
-    s: &[u32],
-    t: &mut [u32],
-    answers: &mut [u32],
-    a: Clock,
-    b: Clock,
-    ua: Vector,
-    ub: Vector,
-) -> Summary
-    requires { ⌜ SheetRows (now s) (now t) a b (length (now answers)) ⌝ }
-    ensures { λ r. ⌜ SheetDone devices a b (vec (ua .0)) (vec (ub .0)) (now (s .entry)) (now (t .entry)) (now (answers .entry)) (now (t .exit)) (now (answers .exit)) (said r) ⌝ }
-{
-    answers[0] = pass_sheet(s, t, a, b, ua, ub);
-    Summary::of_sheet(t)
 }

@@ -1,25 +1,101 @@
--- What rows come to, put together: of no row, of a sheet, of a folder with its children, of siblings.
-use Prim.Native.Nat.{ℕ, _*_, _<_}
+-- Rows that fit: what they come to is what their rows say; one row by its children, and siblings by the first of them.
+use Prim.Native.Nat.{ℕ, _-_, _*_, _≤_, _<_}
 use native.Mathlib.Omega.{arith}
-use lib.ListN.{length, take, drop}
+use lib.ListN.{length, take, drop, length-drop}
+use lib.Seq.{length-take-le}
 use mathlib.Core.Path.{_≡_, refl, sym, ap, ap₂, _∙_}
 use mathlib.Core.List.{List}
-use mathlib.Core.Bool.{true, false, _&&_, and-false, and-assoc, true≢false}
+use mathlib.Core.Bool.{true, false, _&&_, and-false, and-true, and-assoc}
 use Rattle.paper.specs.declared.Clock.{Clock}
-use Rattle.paper.specs.Columns.{Vec, vec, greatest}
-use Rattle.paper.specs.Tree.{end, sheet, folder, mapped, plus}
+use Rattle.paper.specs.Columns.{Vec, greatest}
+use Rattle.paper.specs.Tree.{end, sheet, folder, plus}
 use Rattle.paper.specs.Order.{kindWord, sizeWord, after, ordered, Raw, forestOf}
-use Rattle.paper.specs.Words.{wide, sheetOf, floorOf, treeFrom}
-use Rattle.paper.proofs.Forests.{mapped-plus}
+use Rattle.paper.specs.Words.{floorOf, treeFrom, treeOf}
 use Rattle.paper.specs.Check.{sheetFits, folderFits, rowsFit}
-use Rattle.vector.specs.declared.summary.Summary.{Summary}
-use Rattle.vector.specs.Sums.{sumsOf, said, sumsBoth, sumsUnder, sumsAlone}
-use Rattle.vector.proofs.Sums.{sums-plus, sums-sheet, sums-folder}
-use Rattle.table.specs.declared.rules.Judged.{Judged}
-use Rattle.table.specs.Fit.{Fit, folderBy}
-use Rattle.table.proofs.Laid.{folder-by, part-first}
-use Rattle.table.proofs.Rows.{rows-forest, one-sheet-forest, one-folder-forest}
+use Rattle.paper.proofs.Formed.{ordered-formed}
+use Rattle.paper.proofs.Order.{ordered-facts}
+use Rattle.paper.proofs.Check.{rows-back, rows-good}
+use Rattle.vector.specs.Width.{devices, width}
+use Rattle.vector.proofs.Parts.{tail-part}
+use Rattle.summary.specs.Sums.{sumsOf, stored, Siblings}
+use Rattle.summary.proofs.Narrow.{good-fine}
+use Rattle.summary.proofs.Fine.{stored-sums, rows-named}
+use Rattle.rules.specs.Fit.{summed, folderBy}
+use Rattle.table.specs.Fit.{InOrder, OneRow}
+use Rattle.vector.proofs.Places.{part-first}
+use Rattle.table.proofs.Cuts.{rows-forest, first-length, first-whole, first-ordered, one-under, one-sheet-forest, one-folder-forest}
+use Rattle.order.proofs.Siblings.{next, size-here, part-here, part-after, Here, here}
 
+-- rows that come to what their rows say, and whose stamps name columns
+pub record Told (t : List ℕ) : Type 0 where
+  pub siblings : Siblings t
+  pub sums : stored devices (forestOf width t) ≡ sumsOf (treeOf devices t)
+
+-- rows that fit do: they are the rows of the tree that they write down, and that tree is good
+pub fit-told : (c : Clock) (u : Vec) (t : List ℕ) → InOrder t → rowsFit devices c (forestOf width t) u ≡ true → Told t
+fit-told c u t q e =
+    let back = rows-back devices c (q .levels) (forestOf width t) u (ordered-formed width (omega arith) (q .levels) t (q .order)) e in
+    let fine = good-fine devices c (omega arith) (treeOf devices t) u (rows-good devices c (forestOf width t) u e) in
+    record {
+      siblings = record { levels = q .levels; order = q .order; named = rw back at (rows-named devices (treeOf devices t) fine) };
+      sums = ap (stored devices) (sym back) ∙ stored-sums devices (treeOf devices t) fine;
+    }
+
+-- a folder's rules by what its children come to
+folder-by : (w : ℕ) (c : Clock) (r : List ℕ) (k : Raw) → folderBy w c r (sumsOf (treeFrom w k)) ≡ folderFits w c r (treeFrom w k)
+unfolding folderBy folderFits summed
+folder-by w c r k = refl
+
+-- a sheet alone, and a folder alone
+module _ (w : ℕ) (c : Clock) (u : Vec) (r : List ℕ) where
+  alone : rowsFit w c (sheet r end) u ≡ sheetFits w c u r
+  unfolding rowsFit
+  alone = and-true (sheetFits w c u r)
+
+  above : (k : Raw) → rowsFit w c (folder r k end) u ≡ (folderFits w c r (treeFrom w k) && rowsFit w c k (greatest u (floorOf w r)))
+  unfolding rowsFit
+  above k = ap (λ b. folderFits w c r (treeFrom w k) && b) (and-true (rowsFit w c k (greatest u (floorOf w r))))
+
+-- one row with all beneath it
+module _ (t : List ℕ) (q : OneRow t) where
+  pub row-long : width ≤ length t
+  row-long = let s = ordered-facts width (omega arith) (q .levels) t (q .some) (q .order) in omega (arith, s .fits .room, s .fits .some)
+
+  -- the rows beneath it, as they are cut
+  abbrev pub under : List ℕ
+  under = take (length t - width) (drop width t)
+
+  pub under-order : InOrder under
+  under-order = record {
+    levels = q .levels - 1;
+    order = ap (ordered width (q .levels - 1)) (tail-part width t) ∙ one-under width (omega arith) (q .levels) t (q .some) (q .order) (q .whole);
+  }
+
+  module _ (c : Clock) (u : Vec) where
+    pub sheet-fit : (kindWord t ≡ 3 → ⊥) → sheetFits devices c u (take width t) ≡ rowsFit devices c (forestOf width t) u
+    sheet-fit k = sym (ap (λ f. rowsFit devices c f u) (one-sheet-forest width (omega arith) (q .levels) t (q .some) (q .order) (q .whole) k) ∙ alone devices c u (take width t))
+
+    -- a folder, under whose floor f the floors are v
+    module _ (k : kindWord t ≡ 3) {f v : Vec} (e : f ≡ floorOf devices t) (z : v ≡ greatest u f) where
+      under-floors : v ≡ greatest u (floorOf devices (take width t))
+      under-floors = z ∙ ap (greatest u) (e ∙ sym (part-first devices width 8 t (omega arith)))
+
+      folder-step : rowsFit devices c (forestOf width t) u ≡ (folderFits devices c (take width t) (treeOf devices under) && rowsFit devices c (forestOf width under) v)
+      folder-step =
+          ap (λ f. rowsFit devices c f u) (one-folder-forest width (omega arith) (q .levels) t (q .some) (q .order) (q .whole) k)
+          ∙ above devices c u (take width t) (forestOf width (drop width t))
+          ∙ ap₂ (λ l x. folderFits devices c (take width t) (treeOf devices l) && rowsFit devices c (forestOf width l) x) (sym (tail-part width t)) (sym under-floors)
+
+      pub folder-broken : rowsFit devices c (forestOf width under) v ≡ false → rowsFit devices c (forestOf width t) u ≡ false
+      folder-broken n = folder-step ∙ rw (n, and-false)
+
+      pub folder-fit : rowsFit devices c (forestOf width under) v ≡ true → folderBy devices c (take width t) (stored devices (forestOf width under)) ≡ rowsFit devices c (forestOf width t) u
+      folder-fit y =
+          ap (folderBy devices c (take width t)) (fit-told c v under under-order y .sums)
+          ∙ folder-by devices c (take width t) (forestOf width under)
+          ∙ sym (folder-step ∙ rw (y, and-true))
+
+-- siblings and then others
 fit-plus : (w : ℕ) (c : Clock) (h k : Raw) (u : Vec) → rowsFit w c (plus h k) u ≡ (rowsFit w c h u && rowsFit w c k u)
 unfolding rowsFit plus
 fit-plus w c end k u = refl
@@ -31,69 +107,46 @@ fit-plus w c (folder r l s) k u =
     ∙ ap (λ x. a && x) (sym (and-assoc b (rowsFit w c s u) (rowsFit w c k u)))
     ∙ sym (and-assoc a (b && rowsFit w c s u) (rowsFit w c k u))
 
-module _ (w : ℕ) (c : Clock) (u : Vec) (j : Judged) where
-  pub fit-none : j .fits ≡ true → said (j .sums) ≡ sumsOf end → Fit w c u end j
-  unfolding rowsFit mapped
-  fit-none e s = record { fits = e; sums = λ _. s }
+-- siblings from word `at` on
+module _ (t : List ℕ) (at : ℕ) (l : at < length t) (q : InOrder (drop at t)) where
+  some : 0 < length (drop at t)
+  some = omega (arith, length-drop at t)
 
-  -- rows that do not fit have no summaries
-  broken-fit : (f : Raw) → j .fits ≡ false → rowsFit w c f u ≡ false → Fit w c u f j
-  broken-fit f e g = record { fits = e ∙ sym g; sums = λ h. absurd (true≢false (sym h ∙ e)) }
+  -- the row at `at` with all beneath it
+  abbrev pub partAt : List ℕ
+  partAt = take (next width t at - at) (drop at t)
 
-  pub sheet-broken : (r : List ℕ) → j .fits ≡ false → sheetFits w c u r ≡ false → Fit w c u (sheet r end) j
-  unfolding rowsFit
-  sheet-broken r e g = broken-fit (sheet r end) e (rw g)
+  pub row-here : Here width (q .levels) t at
+  row-here = here width (omega arith) (q .levels) t at (ordered-facts width (omega arith) (q .levels) (drop at t) some (q .order) .fits)
 
-  pub fit-sheet : (r : List ℕ) → j .fits ≡ true → sheetFits w c u r ≡ true → said (j .sums) ≡ sumsAlone (sheetOf w r) → Fit w c u (sheet r end) j
-  unfolding rowsFit mapped
-  fit-sheet r e g s = record { fits = e ∙ sym (rw g); sums = λ _. s ∙ sym (sums-sheet (sheetOf w r)) }
+  pub row-length : length partAt ≡ next width t at - at
+  row-length = length-take-le (next width t at - at) (drop at t) (omega (arith, row-here .room, length-drop at t))
 
-  module _ (r : List ℕ) (k : Raw) (i : Judged) (f : Fit w c (greatest u (floorOf w r)) k i) where
-    pub under-broken : j .fits ≡ false → i .fits ≡ false → Fit w c u (folder r k end) j
-    unfolding rowsFit
-    under-broken e g = broken-fit (folder r k end) e (rw (sym (f .fits) ∙ g, and-false))
+  pub row-one : OneRow partAt
+  row-one =
+      rw (part-here width t at)
+      (record {
+        levels = q .levels;
+        order = first-ordered width (omega arith) (q .levels) (drop at t) some (q .order);
+        some = omega (arith, first-length width (omega arith) (q .levels) (drop at t) some (q .order), row-here .under, size-here width t at);
+        whole = first-whole width (omega arith) (q .levels) (drop at t) some (q .order);
+      })
 
-    -- the folder's row is judged by what its children come to
-    module _ (so : i .fits ≡ true) (s : Summary) (under : said s ≡ sumsUnder (floorOf w r) (said (i .sums))) where
-      sums-here : said s ≡ sumsUnder (floorOf w r) (sumsOf (treeFrom w k))
-      sums-here = under ∙ ap (sumsUnder (floorOf w r)) (f .sums so)
+  pub rows-after : InOrder (drop (next width t at) t)
+  rows-after = record {
+    levels = q .levels;
+    order = ap (ordered width (q .levels)) (part-after width t at) ∙ ordered-facts width (omega arith) (q .levels) (drop at t) some (q .order) .after;
+  }
 
-      pub folder-broken : j .fits ≡ false → folderBy w c r (vec (s .newest .0)) (vec (s .least .0)) (vec (s .most .0)) ≡ false → Fit w c u (folder r k end) j
-      unfolding rowsFit
-      folder-broken e g = broken-fit (folder r k end) e (rw (sym (folder-by w c r (treeFrom w k) s sums-here) ∙ g))
+  module _ (c : Clock) (u : Vec) where
+    rows-step : rowsFit devices c (forestOf width (drop at t)) u ≡ (rowsFit devices c (forestOf width partAt) u && rowsFit devices c (forestOf width (drop (next width t at) t)) u)
+    rows-step =
+        ap (λ f. rowsFit devices c f u) (rows-forest width (omega arith) (q .levels) (drop at t) some (q .order))
+        ∙ fit-plus devices c (forestOf width (take (sizeWord (drop at t) * width) (drop at t))) (forestOf width (after width (drop at t))) u
+        ∙ ap₂ (λ x y. rowsFit devices c (forestOf width x) u && rowsFit devices c (forestOf width y) u) (sym (part-here width t at)) (sym (part-after width t at))
 
-      pub fit-folder : j .fits ≡ true → folderBy w c r (vec (s .newest .0)) (vec (s .least .0)) (vec (s .most .0)) ≡ true → j .sums ≡ s → Fit w c u (folder r k end) j
-      unfolding rowsFit mapped
-      fit-folder e g q = record {
-        fits = e ∙ sym (rw (sym (folder-by w c r (treeFrom w k) s sums-here) ∙ g, sym (f .fits) ∙ so));
-        sums = λ _. ap (λ z. said z) q ∙ sums-here ∙ sym (sums-folder (floorOf w r) (treeFrom w k));
-      }
+    pub rows-broken : rowsFit devices c (forestOf width partAt) u ≡ false → rowsFit devices c (forestOf width (drop at t)) u ≡ false
+    rows-broken e = rows-step ∙ rw e
 
-  module _ (h k : Raw) (a b : Judged) (p : Fit w c u h a) (q : Fit w c u k b) where
-    pub first-broken : j .fits ≡ false → a .fits ≡ false → Fit w c u (plus h k) j
-    first-broken e g = broken-fit (plus h k) e (fit-plus w c h k u ∙ rw (sym (p .fits) ∙ g))
-
-    pub past-broken : j .fits ≡ false → b .fits ≡ false → Fit w c u (plus h k) j
-    past-broken e g = broken-fit (plus h k) e (fit-plus w c h k u ∙ rw (sym (q .fits) ∙ g, and-false))
-
-    pub fit-beside : j .fits ≡ true → a .fits ≡ true → b .fits ≡ true → said (j .sums) ≡ sumsBoth (said (a .sums)) (said (b .sums)) → Fit w c u (plus h k) j
-    fit-beside e f g s = record {
-      fits = e ∙ sym (fit-plus w c h k u ∙ rw (sym (p .fits) ∙ f, sym (q .fits) ∙ g));
-      sums = λ _. s ∙ ap₂ sumsBoth (p .sums f) (q .sums g) ∙ sym (ap (λ z. sumsOf z) (mapped-plus (sheetOf w) (floorOf w) h k) ∙ sums-plus (treeFrom w h) (treeFrom w k));
-    }
-
--- in the words of a part that is in order
-module _ (w : ℕ) (c : Clock) (u : Vec) (j : Judged) (lv : ℕ) (t : List ℕ) (h : 0 < length t) (e : ordered (wide w) lv t ≡ true) where
-  pub rows-fit : (here past : Judged) (s : List ℕ) → s ≡ after (wide w) t → Fit w c u (forestOf (wide w) (take (sizeWord t * wide w) t)) here → Fit w c u (forestOf (wide w) s) past
-      → ((h k : Raw) → Fit w c u h here → Fit w c u k past → Fit w c u (plus h k) j) → Fit w c u (forestOf (wide w) t) j
-  rows-fit here past s q a b f = rw (rows-forest (wide w) (omega arith) lv t h e) (f _ _ a (rw q at b))
-
-  module _ (whole : length t ≡ sizeWord t * wide w) where
-    pub sheet-fit : (kindWord t ≡ 3 → ⊥) → Fit w c u (sheet t end) j → Fit w c u (forestOf (wide w) t) j
-    sheet-fit k f = rw (one-sheet-forest (wide w) (omega arith) lv t h e whole k) f
-
-    pub folder-fit : kindWord t ≡ 3 → (under : Judged) (v : Vec) (s : List ℕ) → s ≡ drop (wide w) t → v ≡ greatest u (floorOf w t) → Fit w c v (forestOf (wide w) s) under
-        → ((x : Vec) (k : Raw) → Fit w c (greatest x (floorOf w (take (wide w) t))) k under → Fit w c x (folder (take (wide w) t) k end) j) → Fit w c u (forestOf (wide w) t) j
-    folder-fit k under v s q z a f =
-        rw (one-folder-forest (wide w) (omega arith) lv t h e whole k)
-        (f u _ (rw (part-first w (wide w) 8 t (omega arith)) (rw (q, z) at a)))
+    pub rows-next : rowsFit devices c (forestOf width partAt) u ≡ true → rowsFit devices c (forestOf width (drop at t)) u ≡ rowsFit devices c (forestOf width (drop (next width t at) t)) u
+    rows-next e = rows-step ∙ rw e

@@ -1,7 +1,7 @@
 // The table check: refusals 1, 2 and 3, on any words whatever.
 use crate::head::head_fits;
-use crate::order::order_fits;
-use crate::rules::judge_rows;
+use crate::rows::rows_fit;
+use order::order_fits;
 use paper::Clock;
 use vector::Vector;
 use vector::row::Row;
@@ -23,8 +23,7 @@ pub fn check(t: &[u32]) -> u32
         device: t[0],
         counter: t[1],
     };
-    let rows = judge_rows(&t[Row::WIDTH..], clock, Vector::zeros());
-    if !rows.fits {
+    if !rows_fit(&t[Row::WIDTH..], clock, Vector::zeros()) {
         return 3;
     }
     0

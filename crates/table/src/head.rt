@@ -1,23 +1,10 @@
 // Refusal 1: the length and the head.
 use vector::Vector;
+use vector::is_blank;
 use vector::row::Row;
 ghost use mathlib.Core.Path.{_≡_};
-ghost use Rattle.paper.specs.Check.{blank, headFits};
+ghost use Rattle.paper.specs.Check.{headFits};
 ghost use Rattle.vector.specs.Width.{devices};
-
-// Whether all words are zero.
-pub fn is_blank(t: &[u32]) -> bool
-    ensures { λ r. ⌜ r ≡ blank (now (t .entry)) ⌝ }
-{
-    let mut i = 0;
-    while i < t.len() {
-        if t[i] != 0 {
-            return false;
-        }
-        i += 1;
-    }
-    true
-}
 
 // Whether the head fits the words.
 pub fn head_fits(t: &[u32]) -> bool

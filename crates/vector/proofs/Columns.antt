@@ -1,38 +1,26 @@
--- Laws of vectors, for any width: what a comparison column by column has found, and how a vector is made.
-use Prim.Native.Nat.{ℕ, zero, suc, _+_, _<_}
-use mathlib.Core.Path.{_≡_, refl, sym, subst, _∙_, fun-ext}
-use mathlib.Core.List.{List}
+-- Laws of vectors, for any width: what a test column by column has found, and how a vector is made.
+use Prim.Native.Nat.{ℕ, zero, suc, _+_, _≤_, _<_, max}
+use mathlib.Core.Path.{_≡_, refl, sym, ap, subst, _∙_, fun-ext}
+use mathlib.Core.List.{List, _++_, append-nil}
 use mathlib.Core.Bool.{Bool, true, false, _&&_, cond}
 use native.Mathlib.Numerals.{add-one}
 use native.Mathlib.Omega.{arith}
 use lib.Dec.{leb, eqb}
 use borrow.Author.Tests.{lt-leb, ne-eqb, eqb-true, eqb-false}
-use lib.ListN.{length, getD, replicate, set}
-use lib.Seq.{getD-set-same, getD-set-other}
-use Rattle.paper.specs.Columns.{Vec, zeros, vec, column, every, covered, alike}
-use Rattle.paper.proofs.Columns.{covered-at, at-covered, alike-at, at-alike}
+use lib.ListN.{length, getD, replicate, set, drop-of-length-le, List·getD-eq-default}
+use lib.Seq.{getD-set-same, getD-set-other, take-all}
+use Rattle.paper.specs.Columns.{Vec, Narrow, zeros, greatest, vec, column, columns, part, every}
+use Rattle.paper.proofs.Columns.{length-columns, vec-columns}
+use Rattle.vector.specs.Places.{put}
 
--- no column is passed, and one more is
+-- a test of no columns, and of one more
 pub every-none : (test : ℕ → Bool) → every 0 test ≡ true
 unfolding every
 every-none test = refl
 
-pub every-more : (test : ℕ → Bool) (i : ℕ) → test i ≡ true → every i test ≡ true → every (i + 1) test ≡ true
+pub every-more : (test : ℕ → Bool) (i : ℕ) {all : Bool} → all ≡ every i test → (test i && all) ≡ every (i + 1) test
 unfolding every
-every-more test i h e = rw (add-one, h, e)
-
--- vectors are alike where each is covered by the other
-pub alike-covered : (w : ℕ) (u v : Vec) → alike w u v ≡ covered w u v && covered w v u
-alike-covered w u v = go (covered w u v) (covered w v u) (alike w u v) refl refl refl
-  where
-    go : (p q r : Bool) → covered w u v ≡ p → covered w v u ≡ q → alike w u v ≡ r → r ≡ p && q
-    go true true true e f g = refl
-    go true true false e f g =
-        sym g ∙ at-alike w u v (λ j l. omega (arith, covered-at w u v e j l, covered-at w v u f j l))
-    go false q true e f g = sym (at-covered w u v (λ j l. omega (arith, alike-at w u v g j l))) ∙ e
-    go false q false e f g = refl
-    go true false true e f g = sym (at-covered w v u (λ j l. omega (arith, alike-at w u v g j l))) ∙ f
-    go true false false e f g = refl
+every-more test i e = rw (add-one, e)
 
 -- a column that is set
 pub column-set : (a : List ℕ) (d n : ℕ) → d < length a → vec (set a d n) ≡ column d n (vec a)
@@ -41,6 +29,30 @@ column-set a d n l = fun-ext (λ j. at j (eqb j d) refl)
     at : (j : ℕ) (t : Bool) → eqb j d ≡ t → getD (set a d n) j 0 ≡ cond t n (getD a j 0)
     at j true e = subst (λ (k : ℕ). getD (set a d n) k 0 ≡ n) (sym (eqb-true j d e)) (getD-set-same a d n 0 l)
     at j false e = getD-set-other a d j n 0 (λ z. eqb-false j d e z)
+
+-- nothing stands past the list's end, where the column is within it
+pub column-narrow : (a : List ℕ) (d n k : ℕ) → d < length a → length a ≤ k → column d n (vec a) k ≡ 0
+column-narrow a d n k h l = rw (ne-eqb k d (λ e. omega arith)) (List·getD-eq-default a 0 l)
+
+-- one that is raised
+pub column-raised : (a : List ℕ) (d n : ℕ) → d < length a → vec (set a d (max (getD a d 0) n)) ≡ greatest (vec a) (column d n zeros)
+column-raised a d n l = column-set a d (max (getD a d 0) n) l ∙ fun-ext (λ j. at j (eqb j d) refl)
+  where
+    at : (j : ℕ) (t : Bool) → eqb j d ≡ t → cond t (max (getD a d 0) n) (getD a j 0) ≡ max (getD a j 0) (cond t n 0)
+    at j true e = ap (λ (k : ℕ). max (getD a k 0) n) (sym (eqb-true j d e))
+    at j false e = omega arith
+
+-- a vector as long as it is wide, all of it raised
+pub all-raised : (w : ℕ) (a e : List ℕ) (u v : Vec) → length a ≡ w → Narrow w v → u ≡ greatest (part w 0 a) v → e ≡ put 0 (columns w u) a → vec e ≡ greatest (vec a) v
+unfolding put part
+all-raised w a e u v l h p q =
+    let x : u ≡ greatest (vec a) v = p ∙ ap (λ k. greatest (vec k) v) (take-all w a (omega arith)) in
+    ap vec (q ∙ ap (λ k. columns w u ++ k) (drop-of-length-le a {i = 0 + length (columns w u)} (omega (arith, length-columns w u))) ∙ append-nil (columns w u))
+    ∙ vec-columns w u (λ j k. ap (λ f. f j) x ∙ omega (arith, h j k, beyond j k))
+    ∙ x
+  where
+    beyond : (j : ℕ) → w ≤ j → getD a j 0 ≡ 0
+    beyond j k = List·getD-eq-default a 0 (omega arith)
 
 -- no number but 0 is at most 0
 pub zero-leb : (n : ℕ) → eqb n 0 ≡ leb n 0

@@ -1,12 +1,13 @@
 // Vectors of counts by value, one column a device, and how they are read from and written to words.
 pub mod row;
-pub mod summary;
 
 ghost use mathlib.Core.Path.{_≡_};
+ghost use mathlib.Core.Bool.{_&&_, cond};
 ghost use Prim.Native.Nat.{_+_, _≤_, _<_};
 ghost use lib.ListN.{length};
 ghost use Rattle.paper.specs.Columns.{vec, zeros, greatest, smallest, column, full, covered, alike, covers, part, columns};
 ghost use Rattle.paper.specs.Walk.{raised};
+ghost use Rattle.paper.specs.Check.{blank};
 ghost use Rattle.vector.specs.Width.{devices};
 ghost use Rattle.vector.specs.Places.{put, pickOf};
 
@@ -28,24 +29,28 @@ impl Vector {
     {
         let a = self.0;
         let b = other.0;
+        let mut all = true;
         let mut i = 0;
         while i < Vector::DEVICES {
-            if a[i] < b[i] {
-                return false;
-            }
+            all = both(b[i] <= a[i], all);
             i += 1;
         }
-        true
+        all
     }
 
     // Are the two equal in every column?
     pub fn same(self, other: Vector) -> bool
         ensures { λ r. ⌜ r ≡ alike devices (vec (self .0)) (vec (other .0)) ⌝ }
     {
-        if other.covers(self) {
-            return self.covers(other);
+        let a = self.0;
+        let b = other.0;
+        let mut all = true;
+        let mut i = 0;
+        while i < Vector::DEVICES {
+            all = both(a[i] == b[i], all);
+            i += 1;
         }
-        false
+        all
     }
 
     // The greatest of the two, or the smallest, column by column.
@@ -80,8 +85,12 @@ impl Vector {
         ensures { λ r. ⌜ vec (r .0) ≡ column d n (vec (self .0)) ⌝ }
     {
         let mut a = self.0;
-        let i = d as usize;
-        a[i] = n;
+        let own = d as usize;
+        let mut i = 0;
+        while i < Vector::DEVICES {
+            a[i] = either_of(i == own, n, a[i]);
+            i += 1;
+        }
         Vector(a)
     }
 
@@ -145,7 +154,7 @@ fn pick(a: u32, b: u32, most: bool) -> u32
     lesser(a, b)
 }
 
-fn greater(a: u32, b: u32) -> u32
+pub fn greater(a: u32, b: u32) -> u32
     ensures { λ r. ⌜ r ≡ Prim.Native.Nat.max a b ⌝ }
 {
     if a < b { b } else { a }
@@ -155,6 +164,36 @@ fn lesser(a: u32, b: u32) -> u32
     ensures { λ r. ⌜ r ≡ Prim.Native.Nat.min a b ⌝ }
 {
     if a < b { a } else { b }
+}
+
+// The first of two counts, or the second.
+fn either_of(first: bool, a: u32, b: u32) -> u32
+    ensures { λ r. ⌜ r ≡ cond first a b ⌝ }
+{
+    if first { a } else { b }
+}
+
+// Do both hold? Both are looked at, so that a run over words need not stop at one.
+pub fn both(a: bool, b: bool) -> bool
+    ensures { λ r. ⌜ r ≡ (a && b) ⌝ }
+{
+    if a {
+        return b;
+    }
+    false
+}
+
+// Whether all words are zero.
+pub fn is_blank(t: &[u32]) -> bool
+    ensures { λ r. ⌜ r ≡ blank (now (t .entry)) ⌝ }
+{
+    let mut all = true;
+    let mut i = 0;
+    while i < t.len() {
+        all = both(t[i] == 0, all);
+        i += 1;
+    }
+    all
 }
 
 // Makes `a` the same as `b`.

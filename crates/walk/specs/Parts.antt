@@ -10,7 +10,6 @@ use Rattle.paper.specs.Walk.{Pair, left, right, walk, answers, looked}
 use Rattle.paper.specs.Order.{wordsOf}
 use Rattle.paper.specs.Words.{rowsOf}
 use Rattle.paper.specs.Good.{Good}
-use Rattle.vector.specs.Sums.{Sums, sumsOf}
 
 -- a tree's words
 abbrev pub treeWords : ℕ → Tree → List ℕ
@@ -42,9 +41,8 @@ pub record RowParts (w : ℕ) (a b : Clock) (ua ub : Vec) (s t : List ℕ) (plac
   pub parts : Parts w a b ua ub s t places
   pub single : Single (parts .pair)
 
--- the target's words afterwards, the answers, the rows looked at, and what the walked rows come to
-pub record Passed (w : ℕ) (a b : Clock) (p : Pair) (ua ub : Vec) (target list : List ℕ) (count : ℕ) (rows : Sums) : Type 0 where
+-- the target's words afterwards, the answers, and the rows looked at
+pub record Passed (w : ℕ) (a b : Clock) (p : Pair) (ua ub : Vec) (target list : List ℕ) (count : ℕ) : Type 0 where
   pub words : target ≡ treeWords w (walk w a b p ua ub)
   pub answers : list ≡ answers w a b p ua ub
   pub looked : count ≡ looked w a b p ua ub
-  pub sums : rows ≡ sumsOf (walk w a b p ua ub)

@@ -1,42 +1,29 @@
 // The walk of a pass: one row, and a folder's children. Parts of both tables and of the answer list are cut alike.
-pub mod start;
-
 use paper::Clock;
 use sheet::folder::may_pass_over;
 use sheet::folder::over_row;
-use sheet::single::sheet_row;
+use sheet::single::pass_sheet;
+use summary::Summary;
 use vector::Vector;
 use vector::row::Row;
-use vector::summary::Summary;
 ghost use mathlib.Core.Path.{_≡_};
-ghost use Prim.Native.Nat.{_+_, _<_, _^_};
-ghost use lib.ListN.{length};
+ghost use Prim.Native.Nat.{_≤_};
+ghost use lib.ListN.{length, drop};
 ghost use Rattle.paper.specs.Columns.{vec};
 ghost use Rattle.paper.specs.Walk.{Pair};
-ghost use Rattle.vector.specs.Width.{devices};
-ghost use Rattle.vector.specs.Sums.{said, sumsBoth};
+ghost use Rattle.paper.specs.Order.{forestOf};
+ghost use Rattle.vector.specs.Width.{devices, width};
+ghost use Rattle.summary.specs.Sums.{Siblings, stored, mended};
 ghost use Rattle.walk.specs.Parts.{Single, Fit, Parts, RowParts, Passed};
 
-// What the walk of some rows tells: how many were looked at, and what they come to afterwards.
-pub struct Walked {
-    pub looked: usize,
-    pub rows: Summary,
-}
-
-impl Walked {
-    // Of a row and of those after it.
-    fn and(self, rest: Walked) -> Walked
-        requires { ⌜ self .looked + rest .looked < 2 ^ 64 ⌝ }
-        ensures { λ r. ⌜ (r .looked ≡ self .looked + rest .looked) × (said (r .rows) ≡ sumsBoth (said (self .rows)) (said (rest .rows))) ⌝ }
-    {
-        let a = self.rows;
-        let b = rest.rows;
-        let rows = a.and(b);
-        Walked {
-            looked: self.looked + rest.looked,
-            rows,
-        }
-    }
+// Puts the summaries of a folder right, by the rows of its children: all that stands after its own row.
+fn mend_first(t: &mut [u32])
+    requires { ⌜ width ≤ length (now t) ⌝ }
+    requires { ⌜ Siblings (drop width (now t)) ⌝ }
+    ensures { λ _. ⌜ now (t .exit) ≡ mended devices (stored devices (forestOf width (drop width (now (t .entry))))) (now (t .entry)) ⌝ }
+{
+    let rows = Summary::of_rows(&t[Row::WIDTH..]);
+    rows.mend(t);
 }
 
 // One row with all beneath it: a sheet, a folder that is passed over, or a folder that is walked.
@@ -48,25 +35,24 @@ pub fn pass_row(
     b: Clock,
     ua: Vector,
     ub: Vector,
-) -> Walked
+) -> usize
     requires { ⌜ RowParts devices a b (vec (ua .0)) (vec (ub .0)) (now source) (now target) (length (now answers)) ⌝ }
-    ensures { λ r. ⌜ ((p : Pair) → Single p → Fit devices a b (vec (ua .0)) (vec (ub .0)) p (now (source .entry)) (now (target .entry)) → Passed devices a b p (vec (ua .0)) (vec (ub .0)) (now (target .exit)) (now (answers .exit)) (r .looked) (said (r .rows))) ⌝ }
+    ensures { λ r. ⌜ ((p : Pair) → Single p → Fit devices a b (vec (ua .0)) (vec (ub .0)) p (now (source .entry)) (now (target .entry)) → Passed devices a b p (vec (ua .0)) (vec (ub .0)) (now (target .exit)) (now (answers .exit)) r) ⌝ }
 {
-    let kind = source[Row::KIND];
-    if kind != 3 {
-        let rows = sheet_row(source, target, answers, a, b, ua, ub);
-        return Walked { looked: 1, rows };
+    if source[Row::KIND] != 3 {
+        answers[0] = pass_sheet(source, target, a, b, ua, ub);
+        return 1;
     }
     if may_pass_over(source, target, a, b, ua, ub) {
-        let rows = over_row(source, target, answers, a, b, ua);
-        return Walked { looked: 1, rows };
+        over_row(source, target, answers, a, b, ua);
+        return 1;
     }
     let floor_a = Vector::read(source, Row::FLOOR);
     let floor_b = Vector::read(target, Row::FLOOR);
     let below_a = ua.greatest(floor_a);
     let below_b = ub.greatest(floor_b);
     answers[0] = 4;
-    let below = pass_children(
+    let looked = pass_children(
         &source[Row::WIDTH..],
         &mut target[Row::WIDTH..],
         &mut answers[1..],
@@ -75,12 +61,8 @@ pub fn pass_row(
         below_a,
         below_b,
     );
-    let rows = below.rows;
-    let rows = rows.mend(target);
-    Walked {
-        looked: below.looked + 1,
-        rows,
-    }
+    mend_first(target);
+    looked + 1
 }
 
 // A folder's children, one after the other.
@@ -92,33 +74,26 @@ pub fn pass_children(
     b: Clock,
     ua: Vector,
     ub: Vector,
-) -> Walked
+) -> usize
     requires { ⌜ Parts devices a b (vec (ua .0)) (vec (ub .0)) (now source) (now target) (length (now answers)) ⌝ }
-    ensures { λ r. ⌜ ((p : Pair) → Fit devices a b (vec (ua .0)) (vec (ub .0)) p (now (source .entry)) (now (target .entry)) → Passed devices a b p (vec (ua .0)) (vec (ub .0)) (now (target .exit)) (now (answers .exit)) (r .looked) (said (r .rows))) ⌝ }
+    ensures { λ r. ⌜ ((p : Pair) → Fit devices a b (vec (ua .0)) (vec (ub .0)) p (now (source .entry)) (now (target .entry)) → Passed devices a b p (vec (ua .0)) (vec (ub .0)) (now (target .exit)) (now (answers .exit)) r) ⌝ }
 {
-    if source.len() == 0 {
-        let rows = Summary::none();
-        return Walked { looked: 0, rows };
+    let mut looked = 0;
+    let mut row = 0;
+    while row < answers.len() {
+        let at = row * Row::WIDTH;
+        let n = source[at + Row::SIZE] as usize;
+        let end = at + n * Row::WIDTH;
+        looked += pass_row(
+            &source[at..end],
+            &mut target[at..end],
+            &mut answers[row..row + n],
+            a,
+            b,
+            ua,
+            ub,
+        );
+        row += n;
     }
-    let n = source[Row::SIZE] as usize;
-    let m = n * Row::WIDTH;
-    let first = pass_row(
-        &source[..m],
-        &mut target[..m],
-        &mut answers[..n],
-        a,
-        b,
-        ua,
-        ub,
-    );
-    let rest = pass_children(
-        &source[m..],
-        &mut target[m..],
-        &mut answers[n..],
-        a,
-        b,
-        ua,
-        ub,
-    );
-    first.and(rest)
+    looked
 }

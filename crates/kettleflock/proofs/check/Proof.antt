@@ -5,7 +5,7 @@ use Rattle.paper.proofs.Refusals.{unless-none, unless-some}
 use Rattle.paper.proofs.Tables.{check-facts}
 use mathlib.Core.Path.{sym, ap₂, _∙_}
 use native.Mathlib.Omega.{arith}
-use Prim.Native.Nat.{ℕ, _-_}
+use Prim.Native.Nat.{ℕ}
 use lib.ListN.{getD}
 use borrow.Author.Needs.{needs}
 use Rattle.kettleflock.proofs.check.Statement.{statement}

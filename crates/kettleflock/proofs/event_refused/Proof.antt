@@ -8,7 +8,6 @@ use Rattle.paper.proofs.Tables.{check-facts}
 use mathlib.Core.Bool.{true, false}
 use lib.Dec.{leb}
 use native.Mathlib.Omega.{arith}
-use Prim.Native.Nat.{_-_}
 use mathlib.Core.Path.{refl, sym, ap, _∙_}
 use lib.ListN.{getD}
 use borrow.Author.Needs.{needs}

@@ -3,7 +3,7 @@ use Rattle.kettleflock.proofs.Made.{new-facts, new-done}
 use Rattle.paper.proofs.Calls.{new-refused}
 use mathlib.Core.List.{List}
 use native.Mathlib.Omega.{arith}
-use Prim.Native.Nat.{ℕ, _-_}
+use Prim.Native.Nat.{ℕ}
 use mathlib.Core.Path.{sym, ap, _∙_}
 use lib.ListN.{length}
 use borrow.Author.Needs.{needs}

@@ -4,7 +4,7 @@ use Rattle.plan.specs.Plan.{planSize}
 use Rattle.plan.proofs.Plans.{order-plan, plan-none, plan-some}
 use Rattle.paper.specs.Order.{ordered}
 use Rattle.paper.specs.Calls.{planned}
-use Rattle.table.proofs.Parts.{tail-part, tail-length}
+use Rattle.vector.proofs.Parts.{tail-part, tail-length}
 use mathlib.Core.Bool.{_&&_}
 use lib.ListN.{length, getD, take, drop, length-take, length-drop}
 use lib.Dec.{ltb, leb}

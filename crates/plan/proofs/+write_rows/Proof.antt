@@ -1,7 +1,7 @@
 -- The first row, and the others. The measure is the plan's length.
 use Rattle.plan.proofs.Plans.{planned-none-of, planned-first, prefix-tail, prefix-length, prefix-rest}
 use Rattle.paper.specs.Calls.{planned}
-use Rattle.table.proofs.Parts.{tail-part, tail-length}
+use Rattle.vector.proofs.Parts.{tail-part, tail-length}
 use borrow.Rule.Slice.PartMut.{same-len-mid}
 use mathlib.Core.List.{List, _++_}
 use lib.ListN.{length, drop}

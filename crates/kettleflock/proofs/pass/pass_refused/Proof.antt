@@ -1,5 +1,5 @@
 -- The refusal of the two tables first; then the list must be as long as the row's size says.
-use Rattle.kettleflock.proofs.Passes.{pass-two, pass-by}
+use Rattle.kettleflock.proofs.Refused.{pass-two, pass-by}
 use Rattle.pair.proofs.Sizes.{size-word}
 use Rattle.pair.proofs.Refusing.{paired, two-room}
 use Rattle.paper.specs.Refusals.{first, when}

@@ -2,7 +2,6 @@
 use Prim.Native.Nat.{_+_, _*_}
 use native.Mathlib.Omega.{arith}
 use Rattle.kettleflock.proofs.Beneath.{folder-at, beneath-cut, beneath-lies}
-use borrow.Author.Needs.{needs}
 use Rattle.kettleflock.proofs.showing.rows_beneath.Statement.{statement}
 use Rattle.kettleflock.proofs.showing.rows_beneath.Tie as tie
 

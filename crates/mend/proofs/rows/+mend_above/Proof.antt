@@ -1,15 +1,15 @@
 -- Nothing is above the first row; a row beneath it has the first row put right after the rows beneath; a later row is looked for after them. The measure is the part's length.
-use Rattle.mend.proofs.Stored.{past-named, under-named}
+use Rattle.summary.proofs.Stored.{past-named, under-named}
 use Rattle.mend.proofs.Lent.{first-mended, back-ordered, back-named, under-part, under-mended, past-mended}
 use Rattle.mend.specs.Mended.{mendedRows}
-use Rattle.table.proofs.Parts.{tail-part, tail-length}
+use Rattle.vector.proofs.Parts.{tail-part, tail-length}
 use Rattle.table.proofs.Descents.{folder-kind}
 use Rattle.paper.proofs.Order.{Step, ordered-facts, beneath-length}
 use Rattle.paper.specs.Order.{sizeWord, beneath, after, forestOf, wordsOf}
 use borrow.Rule.Slice.PartMut.{putMid, same-len-mid}
 use mathlib.Core.Path.{_≡_, ap, _∙_}
 use lib.ListN.{length, take, drop}
-use Prim.Native.Nat.{ℕ, _<_, _*_, _-_, _+_}
+use Prim.Native.Nat.{ℕ, _<_, _*_, _-_}
 use borrow.Author.Needs.{needs}
 use native.Mathlib.Omega.{arith}
 use borrow.Fn.Kinds.{In}

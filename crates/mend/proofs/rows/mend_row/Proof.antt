@@ -1,22 +1,21 @@
 -- The children's rows, and then the row.
-use Rattle.vector.specs.Sums.{mended}
-use Prim.Native.Nat.{_-_}
+use Rattle.summary.specs.Sums.{mended}
 use mathlib.Core.Path.{ap, _∙_}
 use borrow.Author.Needs.{needs}
 use Rattle.mend.proofs.rows.mend_row.Statement.{statement}
 use Rattle.mend.proofs.rows.mend_row.Tie as tie
 
-sub-stored-rows : tie.Need-sub-stored-rows
-sub-stored-rows c = search needs
+sub-of-rows : tie.Need-sub-of-rows
+sub-of-rows c = search needs
 
-part-stored-rows-start : tie.Need-part-stored-rows-start
-part-stored-rows-start c = search needs
+part-of-rows-start : tie.Need-part-of-rows-start
+part-of-rows-start c = search needs
 
-part-stored-rows-end : tie.Need-part-stored-rows-end
-part-stored-rows-end c = search needs
+part-of-rows-end : tie.Need-part-of-rows-end
+part-of-rows-end c = search needs
 
-stored-rows-requires : tie.Need-stored-rows-requires
-stored-rows-requires c κs = search needs
+of-rows-requires : tie.Need-of-rows-requires
+of-rows-requires c κs = search needs
 
 mend-requires : tie.Need-mend-requires
 mend-requires c κs = search needs
@@ -25,16 +24,16 @@ same-length : tie.Need-same-length
 same-length c = search needs
 
 returns : tie.Need-returns
-returns c = c .before .before .mend .ensures .words ∙ ap (λ s. mended 8 s (c .before .before .before .before .before .before .before .before .args .t .now)) (c .before .before .before .before .stored-rows .ensures)
+returns c = c .before .before .mend .ensures ∙ ap (λ s. mended 8 s (c .before .before .before .before .before .before .before .before .args .t .now)) (c .before .before .before .before .of-rows .ensures)
 
 pub mend-row-spec : {M : Type 1} → statement M
 mend-row-spec =
     tie.close
     (tie.spec
-    sub-stored-rows
-    part-stored-rows-start
-    part-stored-rows-end
-    stored-rows-requires
+    sub-of-rows
+    part-of-rows-start
+    part-of-rows-end
+    of-rows-requires
     mend-requires
     same-length
     returns)

@@ -3,7 +3,7 @@ use Rattle.paper.specs.Tree.{shaped}
 use Rattle.paper.specs.Words.{tableOf}
 use Rattle.paper.proofs.Tables.{Checked, check-facts}
 use Rattle.pair.proofs.Shaped.{samePlanOn, shaped-all, same-rows, same-next, same-not, same-end}
-use Rattle.table.proofs.Tests.{not-so}
+use Rattle.vector.proofs.Tests.{not-so}
 use borrow.Author.Needs.{needs}
 use native.Mathlib.Omega.{arith}
 use Prim.Native.Nat.{_-_, _≤_}

@@ -1,5 +1,5 @@
 -- A test that fails refutes one fact of a head that fits; past the last one the head's rest decides.
-use Rattle.table.proofs.Tests.{not-so}
+use Rattle.vector.proofs.Tests.{not-so}
 use Rattle.table.proofs.Heads.{head-rest}
 use Rattle.paper.proofs.Tables.{head-facts}
 use native.Mathlib.Omega.{arith}

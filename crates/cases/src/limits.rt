@@ -1,86 +1,95 @@
 // The limits: rows, levels and the counter.
-use crate::line::said;
+use crate::line::answer;
+use crate::line::character;
+use crate::line::one_of;
+use crate::step::CHANGE;
+use crate::step::CREATE;
 use kettleflock::Answer;
+use vector::row::Row;
 
-// The kind and the size of row i, where there is room for them.
-fn lay_row(t: &mut [u32], i: usize, k: u32) {
-    if i < 300 {
-        let at = (i + 1) * 40;
-        if at + 1 < t.len() {
-            if k == 0 {
-                t[at] = 0;
-                t[at + 1] = 1;
-                return;
-            }
-            t[at] = 3;
-            t[at + 1] = k;
-        }
-    }
+// A table of two rows.
+type Small = [u32; 3 * Row::WIDTH];
+
+// An answer on a line of its own, after what it answers.
+fn said(line: u32, a: Answer) {
+    one_of(
+        b"new, 256 rows/check, 256 rows/new, 257 rows/check, 257 rows/\
+          new, 16 levels/check, 16 levels/new, 17 levels/check, 17 levels/\
+          new, 2 rows/create at 4294967294/change at 4294967295/check afterwards/",
+        line,
+    );
+    answer(a);
+    character(b'\n');
 }
 
-// The number of rows in the head, where there is room for it.
-fn set_rows(t: &mut [u32], rows: u32) {
-    if 2 < t.len() {
-        t[2] = rows;
-    }
+// A new table, and the check of it. Where it is refused the table is as it was: laid by hand beforehand.
+fn limit(new: u32, check: u32, plan: &[u32], table: &mut [u32]) {
+    said(new, kettleflock::new(0, plan, table));
+    said(check, kettleflock::check(table));
 }
 
-// Lays rows as a plan says, whether or not it is a good one, and checks the table.
-fn lay(t: &mut [u32], p: &[u32], rows: u32) -> Answer {
-    set_rows(t, rows);
-    let mut i = 0;
-    while i < p.len() {
-        lay_row(t, i, p[i]);
+// A table of 257 rows, laid by hand: a root with sheets.
+fn wide() -> [u32; 258 * Row::WIDTH] {
+    let mut table = [0u32; 258 * Row::WIDTH];
+    table[2] = 257;
+    table[Row::WIDTH] = 3;
+    table[Row::WIDTH + Row::SIZE] = 257;
+    let mut i = 2;
+    while i < 258 {
+        table[i * Row::WIDTH + Row::SIZE] = 1;
         i += 1;
     }
-    kettleflock::check(t)
+    table
 }
 
 // 256 rows pass, 257 do not.
-fn rows() {
+pub fn rows() {
     let mut plan = [0u32; 256];
     plan[0] = 256;
-    let mut t = [0u32; 10280];
-    said(b"new, 256 rows", kettleflock::new(0, &plan, &mut t));
-    said(b"check, 256 rows", kettleflock::check(&t));
+    let mut table = [9u32; 257 * Row::WIDTH];
+    limit(0, 1, &plan, &mut table);
     let mut more = [0u32; 257];
     more[0] = 257;
-    let mut u = [0u32; 10320];
-    said(b"new, 257 rows", kettleflock::new(0, &more, &mut u));
-    said(b"check, 257 rows", lay(&mut u, &more, 257));
+    let mut beyond = wide();
+    limit(2, 3, &more, &mut beyond);
+}
+
+// A table of 17 levels, laid by hand: each row a folder in the one before.
+fn deep() -> [u32; 18 * Row::WIDTH] {
+    let mut table = [0u32; 18 * Row::WIDTH];
+    table[2] = 17;
+    let mut i = 1;
+    while i < 18 {
+        table[i * Row::WIDTH] = 3;
+        table[i * Row::WIDTH + Row::SIZE] = (18 - i) as u32;
+        i += 1;
+    }
+    table
 }
 
 // 16 levels pass, 17 do not.
-fn levels() {
+pub fn levels() {
     let plan = [16u32, 15, 14, 13, 12, 11, 10, 9, 8, 7, 6, 5, 4, 3, 2, 1];
-    let mut t = [0u32; 680];
-    said(b"new, 16 levels", kettleflock::new(0, &plan, &mut t));
-    said(b"check, 16 levels", kettleflock::check(&t));
+    let mut table = [9u32; 17 * Row::WIDTH];
+    limit(4, 5, &plan, &mut table);
     let more = [17u32, 16, 15, 14, 13, 12, 11, 10, 9, 8, 7, 6, 5, 4, 3, 2, 1];
-    let mut u = [0u32; 720];
-    said(b"new, 17 levels", kettleflock::new(0, &more, &mut u));
-    said(b"check, 17 levels", lay(&mut u, &more, 17));
+    let mut beyond = deep();
+    limit(6, 7, &more, &mut beyond);
+}
+
+// An event at row 1 of a table of two rows.
+fn counted(line: u32, mut table: Small, event: u32, mark: u32) -> Small {
+    said(line, kettleflock::event(&mut table, 1, event, mark));
+    table
 }
 
 // The counter takes one more event at 4294967294, and then none.
-fn counter() {
+pub fn counter() {
     let plan = [2u32, 0];
-    let mut t = [0u32; 120];
-    said(b"new, 2 rows", kettleflock::new(7, &plan, &mut t));
-    t[1] = 4294967294;
-    said(
-        b"create at 4294967294",
-        kettleflock::event(&mut t, 1, 1, 700),
-    );
-    said(
-        b"change at 4294967295",
-        kettleflock::event(&mut t, 1, 2, 701),
-    );
-    said(b"check afterwards", kettleflock::check(&t));
-}
-
-pub fn limits() {
-    rows();
-    levels();
-    counter();
+    let mut table = [0u32; 3 * Row::WIDTH];
+    said(8, kettleflock::new(7, &plan, &mut table));
+    table[1] = 4294967294;
+    let table = counted(9, table, CREATE, 700);
+    let table = counted(10, table, CHANGE, 701);
+    said(11, kettleflock::check(&table));
 }

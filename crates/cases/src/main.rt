@@ -6,9 +6,29 @@ mod settlings;
 mod showings;
 mod step;
 
+use settlings::settled;
+use step::CHANGE;
+use step::NEW;
+use step::OWN;
+use step::REMOVE;
+use step::REMOVED;
+use step::THEIRS;
+
 fn main() {
-    limits::limits();
-    marked::marked();
-    showings::showings();
-    settlings::settlings();
+    limits::rows();
+    limits::levels();
+    limits::counter();
+    marked::abcde();
+    marked::fg();
+    marked::h();
+    marked::ij();
+    marked::k();
+    showings::folders();
+    showings::empty();
+    showings::standings();
+    settled(THEIRS, CHANGE, 702, 1);
+    settled(OWN, CHANGE, 702, 2);
+    settled(NEW, CHANGE, 702, 3);
+    settled(REMOVED, REMOVE, 0, 3);
+    settlings::refused();
 }

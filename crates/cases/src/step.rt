@@ -1,98 +1,161 @@
 // The steps of a case, each a call and a line with its answer: a new table of five rows, an event, a pass, a settling.
+// A table is taken and handed back by value.
 use crate::line::answer;
+use crate::line::character;
 use crate::line::number;
+use crate::line::one_of;
 use crate::line::text;
 use crate::line::words;
+use kettleflock::Answer;
 use kettleflock::pass::pass;
 use kettleflock::settling::settle;
+use vector::Vector;
+use vector::row::Row;
 
-// The device of a table.
-fn device(table: &[u32]) -> u32 {
-    if table.len() == 0 {
-        return 0;
-    }
-    table[0]
-}
-
-// A new table of a device: a root, a folder with two sheets, and a sheet.
-pub fn fresh(device: u32, table: &mut [u32]) {
-    let plan = [5u32, 3, 0, 0, 0];
-    kettleflock::new(device, &plan, table);
-}
+// A table of five rows.
+pub type Table = [u32; 6 * Row::WIDTH];
 
 // What an event does.
-fn verb(event: u32) {
-    if event == 1 {
-        text(b" creates row ");
-        return;
+pub const CREATE: u32 = 1;
+
+pub const CHANGE: u32 = 2;
+
+pub const REMOVE: u32 = 3;
+
+// Which eight words of a row.
+pub const KIND: u32 = 0;
+
+pub const FLOOR: u32 = 1;
+
+pub const LEAST: u32 = 3;
+
+pub const MOST: u32 = 4;
+
+// The cases that have no letter.
+pub const BLANK: u8 = 0;
+
+pub const SHOWING: u8 = 1;
+
+pub const THEIRS: u8 = 2;
+
+pub const OWN: u8 = 3;
+
+pub const NEW: u8 = 4;
+
+pub const REMOVED: u8 = 5;
+
+pub const REFUSED: u8 = 6;
+
+pub const TAKEN: u8 = 7;
+
+// The name of a case, a letter or a word, and a space.
+fn name(case: u8) {
+    if b'A' <= case {
+        character(case);
+    } else {
+        one_of(
+            b" /showing/theirs/own/new/removed/refused/taken/",
+            case as u32,
+        );
     }
-    if event == 2 {
-        text(b" changes row ");
-        return;
-    }
-    text(b" removes row ");
+    character(b' ');
+}
+
+// A new table of a device: a root, a folder with two sheets, and a sheet. The table holds 9s beforehand: a word that is
+// not written shows.
+pub fn fresh(device: u32) -> Table {
+    let plan = [5u32, 3, 0, 0, 0];
+    let mut table = [9u32; 6 * Row::WIDTH];
+    kettleflock::new(device, &plan, &mut table);
+    table
+}
+
+// The line of an event.
+fn event_line(case: u8, device: u32, event: u32, row: u32, a: Answer) {
+    name(case);
+    number(device);
+    one_of(b"/ creates row / changes row / removes row /", event);
+    number(row);
+    answer(a);
+    character(b'\n');
 }
 
 // An event at a row, with a mark.
-pub fn event(case: &[u8], table: &mut [u32], event: u32, row: u32, mark: u32) {
-    let a = kettleflock::event(table, row, event, mark);
-    text(case);
-    text(b" ");
-    number(device(table));
-    verb(event);
-    number(row);
-    answer(a);
-    text(b"\n");
+pub fn event(case: u8, mut table: Table, event: u32, row: u32, mark: u32) -> Table {
+    let a = kettleflock::event(&mut table, row, event, mark);
+    event_line(case, table[0], event, row, a);
+    table
 }
 
-// The two tables of a call.
-fn tables(case: &[u8], source: &[u32], target: &[u32]) {
-    text(case);
-    text(b" ");
-    number(device(source));
+// The devices of the two tables of a call, and its row.
+fn between(case: u8, source: u32, target: u32, call: u32, row: u32) {
+    name(case);
+    number(source);
     text(b" to ");
-    number(device(target));
+    number(target);
+    one_of(b" at row / settled at row /", call);
+    number(row);
 }
 
-// A pass at a row: number, count and whole list.
-pub fn pass_at(case: &[u8], source: &[u32], target: &mut [u32], row: u32, answers: &mut [u32]) {
-    let a = pass(source, target, row, answers);
-    tables(case, source, target);
-    text(b" at row ");
-    number(row);
+// What a pass answers: number, count and whole list.
+fn passed(a: Answer, answers: &[u32]) {
     answer(a);
-    text(b",");
+    character(b',');
     words(answers, 0, answers.len());
-    text(b"\n");
+    character(b'\n');
 }
 
 // A pass at the root. The list holds 9s beforehand: a number that is not written shows.
-pub fn pass_all(case: &[u8], source: &[u32], target: &mut [u32]) {
+pub fn pass_root(case: u8, source: Table, mut target: Table) -> Table {
     let mut answers = [9u32; 5];
-    pass_at(case, source, target, 0, &mut answers);
+    let a = pass(&source, &mut target, 0, &mut answers);
+    between(case, source[0], target[0], 0, 0);
+    passed(a, &answers);
+    target
 }
 
-// A settling at a row: 1 theirs, 2 own, 3 new.
-pub fn settled(case: &[u8], source: &[u32], target: &mut [u32], row: u32, choice: u32, mark: u32) {
-    let a = settle(source, target, row, choice, mark);
-    tables(case, source, target);
-    text(b" settled at row ");
-    number(row);
+// A pass at row 1, the folder.
+pub fn pass_folder(case: u8, source: Table, mut target: Table) -> Table {
+    let mut answers = [9u32; 3];
+    let a = pass(&source, &mut target, 1, &mut answers);
+    between(case, source[0], target[0], 0, 1);
+    passed(a, &answers);
+    target
+}
+
+// What a settling answers.
+fn settled(choice: u32, a: Answer) {
     text(b" by ");
     number(choice);
     answer(a);
-    text(b"\n");
+    character(b'\n');
 }
 
-// Eight words of a row of a table: from word 0 its kind to its mark, from 8 its floor, from 24 its least, from 32 its most.
-pub fn eight(what: &[u8], table: &[u32], row: usize, from: usize) {
-    text(what);
-    text(b":");
-    if row < 256 {
-        if from < 40 {
-            let start = (row + 1) * 40 + from;
-            words(table, start, start + 8);
-        }
-    }
-    text(b"\n");
+// A settling at a row: 1 theirs, 2 own, 3 new.
+pub fn settling(
+    case: u8,
+    source: Table,
+    mut target: Table,
+    row: u32,
+    choice: u32,
+    mark: u32,
+) -> Table {
+    let a = settle(&source, &mut target, row, choice, mark);
+    between(case, source[0], target[0], 1, row);
+    settled(choice, a);
+    target
+}
+
+// Eight words of a row of a table: its kind to its mark, its floor, its newest, its least or its most.
+pub fn eight(case: u8, table: Table, row: u32, part: u32) {
+    name(case);
+    one_of(
+        b"row /floor of row /newest of row /least of row /most of row /",
+        part,
+    );
+    number(row);
+    character(b':');
+    let start = (row as usize + 1) * Row::WIDTH + part as usize * Vector::DEVICES;
+    words(&table, start, start + Vector::DEVICES);
+    character(b'\n');
 }

@@ -6,17 +6,22 @@
  * date. The library keeps no state and allocates nothing; all memory is lent by the caller for one call.
  *
  * Lent memory. Every buffer is a pointer to 32-bit words followed by its length in words. The pointer isn't
- * NULL, even where the length is 0, and it points to that many words. The buffers of one call don't overlap.
- * Any words at all may be lent: what isn't a sound table is refused.
+ * NULL, even where the length is 0, and it points to that many words. A buffer that is written overlaps no other of
+ * the call. Any words at all may be lent: what isn't a sound table is refused.
  *
  * Answers. Every call gives a number and a count. Number 0 is success; any other is one of KF_REFUSED_..., with
  * the count 0, and then no word of any buffer has changed. Where several refusals apply, the first in the order
  * given at the call is the one given.
  *
- * Layout. A table is a head of 40 words (device, counter, number of rows, zeros) and then 40 words for each of its
- * 1 to 256 rows: 0 kind, 1 size, 2-3 stamp (device, count), 4-5 birth (device, count), 6 mark, 7 zero, 8-15 floor,
- * 16-23 newest, 24-31 least, 32-39 most. Rows are depth first and numbered from 0, the root; a folder's size counts
- * itself and all rows beneath it, a sheet's is 1.
+ * Layout. A vector has a column, one count, for each device: 8 in a narrow table, for devices 0 to 7, and 16 in a
+ * wide one, for devices 0 to 15. A table is a head and then its 1 to 256 rows; the head and each row have 40 words if
+ * narrow, 72 if wide. The head: 0 device, 1 counter, 2 number of rows, 3 the sign of its width (0 if narrow, 16 if
+ * wide), then zeros. A row: 0 kind, 1 size, 2-3 stamp (device, count), 4-5 birth (device, count), 6 mark, 7 zero, and
+ * four vectors, floor, newest, least, most, which start at 8, 16, 24, 32 if narrow and at 8, 24, 40, 56 if wide. Rows
+ * are depth first and numbered from 0, the root; a folder's size counts itself and all rows beneath it, a sheet's is 1.
+ *
+ * Width. A call that takes two tables takes them of one width. kf_widen writes a narrow table as a wide one, from which
+ * its device then goes on.
  */
 #ifndef KETTLEFLOCK_H
 #define KETTLEFLOCK_H
@@ -28,16 +33,31 @@
 extern "C" {
 #endif
 
-/* The words of a row, and of the head. */
-#define KF_WIDTH 40
+/* The columns of a vector, one for each device: devices are numbered from 0. */
+#define KF_COLUMNS_NARROW 8
+#define KF_COLUMNS_WIDE 16
 /* The most rows of a table, and the most levels, root and sheets included. */
 #define KF_MOST_ROWS 256
 #define KF_MOST_LEVELS 16
-/* How many devices there can be: they're numbered 0 to 7. */
-#define KF_DEVICES 8
+
+/* Places in the head. */
+enum kf_head_place { KF_AT_DEVICE = 0, KF_AT_COUNTER = 1, KF_AT_ROWS = 2, KF_AT_SIGN = 3 };
+
+/* Places in a row, from its start. A stamp or birth has its device there and its count next. */
+enum kf_row_place { KF_AT_KIND = 0, KF_AT_SIZE = 1, KF_AT_STAMP = 2, KF_AT_BIRTH = 4, KF_AT_MARK = 6, KF_AT_FLOOR = 8 };
+#define KF_AT_NEWEST(columns) (KF_AT_FLOOR + (size_t)(columns))
+#define KF_AT_LEAST(columns) (KF_AT_FLOOR + 2 * (size_t)(columns))
+#define KF_AT_MOST(columns) (KF_AT_FLOOR + 3 * (size_t)(columns))
+
+/* The columns of a sound table. */
+#define KF_COLUMNS(table) ((table)[KF_AT_SIGN] == 0 ? KF_COLUMNS_NARROW : KF_COLUMNS_WIDE)
+/* The words of a row, and of the head. */
+#define KF_WIDTH(columns) (KF_AT_FLOOR + 4 * (size_t)(columns))
 /* The length of a table of so many rows, and where a row starts, in words. */
-#define KF_LENGTH(rows) (KF_WIDTH * ((size_t)(rows) + 1))
-#define KF_ROW(row) (KF_WIDTH * ((size_t)(row) + 1))
+#define KF_LENGTH(columns, rows) (KF_WIDTH(columns) * ((size_t)(rows) + 1))
+#define KF_ROW(columns, row) (KF_WIDTH(columns) * ((size_t)(row) + 1))
+/* Room for any table, in words. The length that is lent is the table's own. */
+#define KF_MOST_LENGTH KF_LENGTH(KF_COLUMNS_WIDE, KF_MOST_ROWS)
 
 /* What every call gives. */
 typedef struct kf_answer {
@@ -47,8 +67,8 @@ typedef struct kf_answer {
 
 /* Why a call is refused. */
 enum kf_refusal {
-    KF_REFUSED_HEAD = 1,          /* length or head wrong: device above 7, row count not 1 to 256 or not matching the
-                                     length, non-zero rest */
+    KF_REFUSED_HEAD = 1,          /* length or head wrong: device above 7 (above 15 in a wide table), row count not 1 to
+                                     256 or not matching the length, word 3 neither 0 nor 16, non-zero rest */
     KF_REFUSED_ORDER = 2,         /* a kind is above 3, or sizes, row 0 or levels break the order of rows; or a plan that
                                      would give such rows */
     KF_REFUSED_RULE = 3,          /* any other rule of the layout or the times is broken */
@@ -66,7 +86,9 @@ enum kf_refusal {
     KF_REFUSED_NO_CONFLICT = 14,  /* settling where the rules don't say conflict */
     KF_REFUSED_COUNTER = 15,      /* the counter is 4,294,967,295 and a new stamp is needed */
     KF_REFUSED_CHOICE = 16,       /* event or choice not 1, 2 or 3 */
-    KF_REFUSED_DEVICE = 17        /* new table's device above 7 */
+    KF_REFUSED_DEVICE = 17,       /* new table's device above 7 (above 15 with 16 columns) */
+    KF_REFUSED_WIDTH = 19         /* two tables of different width; new table's columns neither 8 nor 16; widening a
+                                     table that is wide already */
 };
 
 /* Word 0 of a row. Everything but a folder is a sheet. */
@@ -98,13 +120,24 @@ enum kf_side { KF_NEITHER = 0, KF_SOURCE = 1, KF_TARGET = 2 };
 kf_answer kf_check(const uint32_t *table, size_t table_length);
 
 /*
- * Makes a new table of a device, 0 to 7, with counter 0 and every sheet never. Counts its rows.
+ * Makes a new table of a device, below `columns`, with counter 0 and every sheet never. Counts its rows.
  *
- * The plan has a number for each row, depth first: 0 for a sheet, k for a folder of size k. `table` is written whole
- * and must have KF_LENGTH(plan_length) words; what was in it doesn't matter.
- * Refused with 17, 2 (also for a plan with no row or over 256), 9.
+ * `columns` is KF_COLUMNS_NARROW or KF_COLUMNS_WIDE. The plan has a number for each row, depth first: 0 for a sheet, k
+ * for a folder of size k. `table` is written whole and must have KF_LENGTH(columns, plan_length) words; what was in it
+ * doesn't matter.
+ * Refused with 19, 17, 2 (also for a plan with no row or over 256), 9.
  */
-kf_answer kf_new(uint32_t device, const uint32_t *plan, size_t plan_length, uint32_t *table, size_t table_length);
+kf_answer kf_new(uint32_t columns, uint32_t device, const uint32_t *plan, size_t plan_length, uint32_t *table,
+                 size_t table_length);
+
+/*
+ * Writes a narrow table, only read, as a wide one: the same device, counter, rows and times, zeros in the new columns.
+ * Counts its rows.
+ *
+ * `wide` is written whole and must have KF_LENGTH(KF_COLUMNS_WIDE, rows) words; what was in it doesn't matter.
+ * Refused with 1, 2, 3, 19 (the table is wide already), 9.
+ */
+kf_answer kf_widen(const uint32_t *table, size_t table_length, uint32_t *wide, size_t wide_length);
 
 /*
  * Does an event to a sheet: KF_CREATE (never or removed), KF_CHANGE (live) or KF_REMOVE (live). The counter goes up by
@@ -118,7 +151,7 @@ kf_answer kf_event(uint32_t *table, size_t table_length, uint32_t row, uint32_t 
  *
  * `answers` must have as many words as the row's size; it gets one of KF_SAID_... for each row, the first being
  * `row` itself. Sheets and times of the target are brought up to date, but for conflicts.
- * Refused with 1, 2, 3, 11, 12, 13, 4, 5, 6, 7, 8, 9.
+ * Refused with 1, 2, 3, 11, 12, 13, 19, 4, 5, 6, 7, 8, 9.
  */
 kf_answer kf_pass(const uint32_t *source, size_t source_length, uint32_t *target, size_t target_length, uint32_t row,
                   uint32_t *answers, size_t answers_length);
@@ -127,28 +160,28 @@ kf_answer kf_pass(const uint32_t *source, size_t source_length, uint32_t *target
  * Settles a sheet where the rules say conflict, in the target: KF_THEIRS takes the source's sheet, KF_OWN keeps the
  * target's, KF_NEW makes it live with a new stamp and the mark given (the others ignore the mark). The conflict
  * doesn't come back. Counts the new stamp, 0 if there is none.
- * Refused with 1, 2, 3, 11, 12, 13, 4, 5, 6, 7, 8, 16, 10, 14, 15.
+ * Refused with 1, 2, 3, 11, 12, 13, 19, 4, 5, 6, 7, 8, 16, 10, 14, 15.
  */
 kf_answer kf_settle(const uint32_t *source, size_t source_length, uint32_t *target, size_t target_length, uint32_t row,
                     uint32_t choice, uint32_t mark);
 
 /*
  * Shows all rows beneath a folder. Counts the words of that part of the table, which starts at
- * table + KF_ROW(row + 1); an empty folder counts 0.
+ * table + KF_ROW(KF_COLUMNS(table), row + 1); an empty folder counts 0.
  * Refused with 1, 2, 3, 8.
  */
 kf_answer kf_beneath(const uint32_t *table, size_t table_length, uint32_t row);
 
 /*
  * Shows the row that stands if the source is passed to the target: the source's where the rules say copy or
- * remove, else the target's. Counts its words: KF_WIDTH, or 0 on a conflict. Changes nothing.
- * Refused with 1, 2, 3, 11, 12, 13, 4, 5, 6, 7, 8, 10.
+ * remove, else the target's. Counts its words: KF_WIDTH(KF_COLUMNS(target)), or 0 on a conflict. Changes nothing.
+ * Refused with 1, 2, 3, 11, 12, 13, 19, 4, 5, 6, 7, 8, 10.
  */
 kf_answer kf_standing(const uint32_t *source, size_t source_length, const uint32_t *target, size_t target_length,
                       uint32_t row);
 
 /*
- * In whose table that row lies, at KF_ROW(row): KF_SOURCE or KF_TARGET, and KF_NEITHER on a conflict or a refusal.
+ * In whose table that row lies, at its KF_ROW: KF_SOURCE or KF_TARGET, and KF_NEITHER on a conflict or a refusal.
  */
 uint32_t kf_standing_side(const uint32_t *source, size_t source_length, const uint32_t *target, size_t target_length,
                           uint32_t row);

@@ -1,5 +1,8 @@
 //! One call: what is lent and told to it, and what comes of it.
 
+use second::layout::Width;
+use second::trial::look;
+
 use crate::program::{Answer, Program};
 
 /// Which call.
@@ -9,6 +12,8 @@ pub enum Call {
     Check,
     /// `kf_new`.
     New,
+    /// `kf_widen`.
+    Widen,
     /// `kf_event`.
     Event,
     /// `kf_pass`.
@@ -23,9 +28,10 @@ pub enum Call {
 
 impl Call {
     /// All calls.
-    pub const ALL: [Call; 7] = [
+    pub const ALL: [Call; 8] = [
         Call::Check,
         Call::New,
+        Call::Widen,
         Call::Event,
         Call::Pass,
         Call::Settle,
@@ -38,6 +44,7 @@ impl Call {
         match self {
             Call::Check => "kf_check",
             Call::New => "kf_new",
+            Call::Widen => "kf_widen",
             Call::Event => "kf_event",
             Call::Pass => "kf_pass",
             Call::Settle => "kf_settle",
@@ -47,15 +54,38 @@ impl Call {
     }
 
     /// Every number it can give: success, and then the paper's order.
-    pub fn numbers(self) -> &'static [u32] {
+    fn numbers(self) -> &'static [u32] {
         match self {
             Call::Check => &[0, 1, 2, 3],
-            Call::New => &[0, 17, 2, 9],
+            Call::New => &[0, 19, 17, 2, 9],
+            Call::Widen => &[0, 1, 2, 3, 19, 9],
             Call::Event => &[0, 1, 2, 3, 16, 8, 10, 15],
-            Call::Pass => &[0, 1, 2, 3, 11, 12, 13, 4, 5, 6, 7, 8, 9],
-            Call::Settle => &[0, 1, 2, 3, 11, 12, 13, 4, 5, 6, 7, 8, 16, 10, 14, 15],
+            Call::Pass => &[0, 1, 2, 3, 11, 12, 13, 19, 4, 5, 6, 7, 8, 9],
+            Call::Settle => &[0, 1, 2, 3, 11, 12, 13, 19, 4, 5, 6, 7, 8, 16, 10, 14, 15],
             Call::Beneath => &[0, 1, 2, 3, 8],
-            Call::Standing => &[0, 1, 2, 3, 11, 12, 13, 4, 5, 6, 7, 8, 10],
+            Call::Standing => &[0, 1, 2, 3, 11, 12, 13, 19, 4, 5, 6, 7, 8, 10],
+        }
+    }
+
+    /// Every number it can give at a width.
+    pub fn numbers_at(self, width: Width) -> impl Iterator<Item = u32> {
+        let never: &[u32] = match (self, width) {
+            // Columns that are neither 8 nor 16 are told of with the narrow ones.
+            (Call::New, Width::Wide) | (Call::Widen, Width::Narrow) => &[19],
+            (Call::Widen, Width::Wide) => &[0, 9],
+            _ => &[],
+        };
+        let numbers = self.numbers().iter().copied();
+        numbers.filter(move |number| !never.contains(number))
+    }
+
+    /// The buffers that it may change, by name.
+    pub fn changes(self) -> &'static [&'static str] {
+        match self {
+            Call::Check | Call::Beneath | Call::Standing => &[],
+            Call::New | Call::Event | Call::Settle => &["target"],
+            Call::Widen => &["wide"],
+            Call::Pass => &["target", "answers"],
         }
     }
 
@@ -72,10 +102,14 @@ pub struct Lent {
     pub source: Vec<u32>,
     /// The target's words, or those of the only table.
     pub target: Vec<u32>,
+    /// The words that a widening writes.
+    pub wide: Vec<u32>,
     /// The plan of a new table.
     pub plan: Vec<u32>,
     /// A pass's answers.
     pub answers: Vec<u32>,
+    /// The columns of a new table.
+    pub columns: u32,
     /// The device of a new table.
     pub device: u32,
     /// The row.
@@ -84,6 +118,27 @@ pub struct Lent {
     pub act: u32,
     /// The mark.
     pub mark: u32,
+}
+
+impl Lent {
+    /// The width at which a call works: that of its target or only table.
+    pub fn width(&self, call: Call) -> Width {
+        match call {
+            Call::New => Width::of_columns(self.columns).unwrap_or(Width::Narrow),
+            _ => look::width(&self.target),
+        }
+    }
+
+    /// The lent buffers by name.
+    pub fn buffers(&self) -> [(&'static str, &Vec<u32>); 5] {
+        [
+            ("source", &self.source),
+            ("target", &self.target),
+            ("wide", &self.wide),
+            ("plan", &self.plan),
+            ("answers", &self.answers),
+        ]
+    }
 }
 
 /// What came of a call.
@@ -140,14 +195,14 @@ fn guard_at(place: usize) -> u32 {
 
 /// Has a program do a call on copies of what is lent.
 pub fn perform(program: &Program, call: Call, lent: &Lent, shift: usize) -> Outcome {
-    let mut buffers = [&lent.source, &lent.target, &lent.plan, &lent.answers]
-        .map(|words| Guarded::new(words, shift));
-    let [source, target, plan, answers] = &mut buffers;
+    let mut buffers = lent.buffers().map(|(_, words)| Guarded::new(words, shift));
+    let [source, target, wide, plan, answers] = &mut buffers;
     let (row, act, mark) = (lent.row, lent.act, lent.mark);
     let mut side = 0;
     let answer = match call {
         Call::Check => (program.check)(target.lent()),
-        Call::New => (program.new)(lent.device, plan.lent(), target.lent()),
+        Call::New => (program.new)(lent.columns, lent.device, plan.lent(), target.lent()),
+        Call::Widen => (program.widen)(target.lent(), wide.lent()),
         Call::Event => (program.event)(target.lent(), row, act, mark),
         Call::Pass => (program.pass)(source.lent(), target.lent(), row, answers.lent()),
         Call::Settle => (program.settle)(source.lent(), target.lent(), row, act, mark),
@@ -158,13 +213,14 @@ pub fn perform(program: &Program, call: Call, lent: &Lent, shift: usize) -> Outc
         }
     };
     let guards_held = buffers.iter().all(Guarded::held);
-    let [source, target, plan, answers] = buffers.map(|mut buffer| buffer.lent().to_vec());
+    let [source, target, wide, plan, answers] = buffers.map(|mut buffer| buffer.lent().to_vec());
     Outcome {
         answer,
         side,
         lent: Lent {
             source,
             target,
+            wide,
             plan,
             answers,
             ..*lent

@@ -1,14 +1,14 @@
 //! Several devices at work: a table for each, and the history of them all.
 
-use std::collections::BTreeSet;
-
-use second::history::{Act, Choice, Event, History, State};
+use second::history::{Act, Choice};
+use second::layout::{head, Kind, Width};
+use second::trial::look::{is_folder, kind, rows, size, width};
+use second::trial::{plans, two_of, Random};
 
 use crate::call::{Call, Lent, Outcome};
 use crate::judge::{Failure, Judge};
-use crate::layout::{at, head, is_folder, known, stamp, word, LIVE, NEVER, REMOVED, WIDTH};
-use crate::random::Random;
-use crate::run::{Run, Step};
+use crate::record::Record;
+use crate::run::{Pair, Run, Start, Step};
 
 /// The number in an answer list that asks for a settling.
 const CONFLICT: u32 = 3;
@@ -37,112 +37,81 @@ fn hold(holds: bool, what: impl FnOnce() -> String) -> Result<(), Trouble> {
     }
 }
 
-/// A conflict that a pass has left.
-#[derive(Clone, Copy)]
-struct Conflict {
-    source: usize,
-    target: usize,
-    row: usize,
-}
-
 /// The devices of a run.
 pub struct Desk<'a> {
     judge: &'a Judge,
-    /// Each device's counter at the start: the history names its first event 1.
-    counters: Vec<u32>,
-    sheets: Vec<usize>,
     tables: Vec<Vec<u32>>,
-    history: History,
-    conflicts: Vec<Conflict>,
+    record: Record,
+    /// Conflicts that passes have left.
+    conflicts: Vec<Pair>,
 }
 
 impl Desk<'_> {
     /// The devices before the first step.
     pub fn new<'a>(judge: &'a Judge, run: &Run) -> Result<Desk<'a>, Trouble> {
-        let sheets: Vec<u32> = (0..)
-            .zip(&run.plan)
-            .filter(|&(_, &number)| number == 0)
-            .map(|(row, _)| row)
-            .collect();
-        let fresh = |(device, &counter): (usize, &u32)| {
+        let fresh = |(device, start): (usize, &Start)| {
             let lent = Lent {
-                target: vec![u32::MAX; WIDTH * (run.plan.len() + 1)],
+                target: vec![u32::MAX; start.width.length(run.plan.len())],
                 plan: run.plan.clone(),
+                columns: start.width.columns() as u32,
                 device: device as u32,
                 ..Lent::default()
             };
             let mut table = judge.call(Call::New, &lent)?.lent.target;
-            table[head::COUNTER] = counter;
+            table[head::COUNTER] = start.counter;
             Ok(table)
         };
+        let tables = run.starts.iter().enumerate().map(fresh);
+        let counters = run.starts.iter().map(|start| start.counter).collect();
         Ok(Desk {
             judge,
-            counters: run.counters.clone(),
-            history: History::new(run.counters.len() as u32, &sheets),
-            sheets: sheets.into_iter().map(|row| row as usize).collect(),
-            tables: run
-                .counters
-                .iter()
-                .enumerate()
-                .map(fresh)
-                .collect::<Result<_, Failure>>()?,
+            tables: tables.collect::<Result<_, Failure>>()?,
+            record: Record::new(counters, plans::sheets(&run.plan)),
             conflicts: Vec::new(),
         })
     }
 
     /// Some step that mostly fits what is there.
     pub fn choose(&mut self, random: &mut Random) -> Step {
-        let devices = self.tables.len();
-        let rows = self.tables[0][head::ROWS] as usize;
-        let source = random.within(0..devices);
-        let target = (source + random.within(1..devices)) % devices;
+        let rows = rows(&self.tables[0]);
+        let (source, target) = two_of(random, &self.tables);
+        let at = |row: usize| Pair {
+            source,
+            target,
+            row,
+        };
         let anywhere = random.within(0..rows);
         let mark = random.word();
         let choice = random.within(1..4) as u32;
         if random.once_in(2) {
-            if let Some(conflict) = self.conflicts.pop() {
-                return Step::Settle {
-                    source: conflict.source,
-                    target: conflict.target,
-                    row: conflict.row,
-                    choice,
-                    mark,
-                };
+            if let Some(pair) = self.conflicts.pop() {
+                return Step::Settle { pair, choice, mark };
             }
         }
-        let row = if self.sheets.is_empty() || random.once_in(12) {
+        let row = if self.record.sheets.is_empty() || random.once_in(12) {
             anywhere
         } else {
-            random.one_of(&self.sheets)
+            random.one_of(&self.record.sheets)
         };
-        match random.within(0..12) {
-            0..=4 => Step::Event {
+        match random.within(0..36) {
+            0 => Step::Widen { device: target },
+            1..=14 => Step::Event {
                 device: target,
                 row,
-                act: match at(&self.tables[target], row, word::KIND) {
+                act: match Kind::read(kind(&self.tables[target], row)) {
                     _ if random.once_in(20) => choice,
-                    LIVE => random.one_of(&[2, 2, 3]),
+                    Some(Kind::Live) => random.one_of(&[2, 2, 3]),
                     _ => 1,
                 },
                 mark,
             },
-            5 => Step::Settle {
-                source,
-                target,
-                row,
+            15..=17 => Step::Settle {
+                pair: at(row),
                 choice,
                 mark,
             },
-            6 => Step::Show {
-                source,
-                target,
-                row: random.within(0..rows + 1),
-            },
-            _ => Step::Pass {
-                source,
-                target,
-                row: random.one_of(&[0, 0, row, anywhere]),
-            },
+            18..=20 => Step::Show(at(random.within(0..rows + 1))),
+            _ => Step::Pass(at(random.one_of(&[0, 0, row, anywhere]))),
         }
     }
 
@@ -155,23 +124,10 @@ impl Desk<'_> {
                 act,
                 mark,
             } => self.event(device, row, act, mark),
-            Step::Pass {
-                source,
-                target,
-                row,
-            } => self.pass(source, target, row),
-            Step::Settle {
-                source,
-                target,
-                row,
-                choice,
-                mark,
-            } => self.settle(source, target, row, choice, mark),
-            Step::Show {
-                source,
-                target,
-                row,
-            } => self.show(source, target, row),
+            Step::Widen { device } => self.widen(device),
+            Step::Pass(pair) => self.pass(pair),
+            Step::Settle { pair, choice, mark } => self.settle(pair, choice, mark),
+            Step::Show(pair) => self.show(pair),
         }
     }
 
@@ -193,24 +149,46 @@ impl Desk<'_> {
             return Ok(());
         }
         let act = [Act::Create, Act::Change, Act::Remove][act as usize - 1];
-        let said = self.history.event(device as u32, row as u32, act);
+        let said = self.record.history.event(device, row, act);
         self.agree(device, row, &outcome, said, 10)
     }
 
-    fn settle(
-        &mut self,
-        source: usize,
-        target: usize,
-        row: usize,
-        choice: u32,
-        mark: u32,
-    ) -> Result<(), Trouble> {
+    /// A widening; the history hears nothing of it.
+    fn widen(&mut self, device: usize) -> Result<(), Trouble> {
+        let table = &self.tables[device];
+        let lent = Lent {
+            target: table.clone(),
+            wide: vec![u32::MAX; Width::Wide.length(rows(table))],
+            ..Lent::default()
+        };
+        let number = match width(table) {
+            Width::Narrow => 0,
+            Width::Wide => 19,
+        };
+        let outcome = self.judge.call(Call::Widen, &lent)?;
+        hold(outcome.answer.number == number, || {
+            format!("widening gives {}, not {number}", outcome.answer.number)
+        })?;
+        if number == 0 {
+            self.tables[device] = outcome.lent.wide;
+        }
+        self.agree_everywhere(device)
+    }
+
+    fn settle(&mut self, pair: Pair, choice: u32, mark: u32) -> Result<(), Trouble> {
+        let Pair {
+            source,
+            target,
+            row,
+        } = pair;
         let lent = Lent {
             act: choice,
             mark,
-            ..self.pair(source, target, row)
+            ..self.lent(pair)
         };
-        let outcome = self.call_pair(Call::Settle, &lent)?;
+        let Some(outcome) = self.call_pair(Call::Settle, &lent)? else {
+            return Ok(());
+        };
         if is_folder(&lent.target, row) {
             return hold(outcome.answer.number == 10, || {
                 "settling a folder isn't refused".to_owned()
@@ -220,68 +198,72 @@ impl Desk<'_> {
             return Ok(());
         }
         let choice = [Choice::Theirs, Choice::Own, Choice::New][choice as usize - 1];
-        let said = self
-            .history
-            .settle(source as u32, target as u32, row as u32, choice);
+        let said = self.record.history.settle(source, target, row, choice);
         self.agree(target, row, &outcome, said, 14)
     }
 
-    fn pass(&mut self, source: usize, target: usize, start: usize) -> Result<(), Trouble> {
-        let size = at(&self.tables[target], start, word::SIZE);
+    fn pass(&mut self, pair: Pair) -> Result<(), Trouble> {
+        let Pair {
+            source,
+            target,
+            row: start,
+        } = pair;
+        let size = size(&self.tables[target], start);
         let lent = Lent {
-            answers: vec![u32::MAX; size as usize],
-            ..self.pair(source, target, start)
+            answers: vec![u32::MAX; size],
+            ..self.lent(pair)
         };
-        let outcome = self.call_pair(Call::Pass, &lent)?;
+        let Some(outcome) = self.call_pair(Call::Pass, &lent)? else {
+            return Ok(());
+        };
         hold(outcome.answer.number == 0, || {
             format!("a pass is refused with {}", outcome.answer.number)
         })?;
-        let rows = start as u32..start as u32 + size;
-        let rulings = self.history.pass(source as u32, target as u32, rows);
+        let rows = start..start + size;
+        let rulings = self.record.history.pass(source, target, rows);
         for (row, &answer) in (start..).zip(&outcome.lent.answers) {
-            let ruling = rulings.get(&(row as u32)).map(|ruling| ruling.answer());
+            let ruling = rulings.get(&row).map(|ruling| ruling.answer());
             hold(
                 ruling.map_or(answer == 4 || answer == 5, |ruling| ruling == answer),
                 || format!("row {row}: the pass says {answer}, the history {ruling:?}"),
             )?;
             if answer == CONFLICT {
-                self.conflicts.push(Conflict {
-                    source,
-                    target,
-                    row,
-                });
+                self.conflicts.push(Pair { row, ..pair });
             }
         }
         self.tables[target] = outcome.lent.target;
         self.agree_everywhere(target)
     }
 
-    fn show(&mut self, source: usize, target: usize, row: usize) -> Result<(), Trouble> {
-        let lent = self.pair(source, target, row);
-        for call in [Call::Check, Call::Beneath, Call::Standing] {
-            self.call_pair(call, &lent)?;
+    fn show(&mut self, pair: Pair) -> Result<(), Trouble> {
+        let lent = self.lent(pair);
+        for call in [Call::Check, Call::Beneath] {
+            self.judge.call(call, &lent)?;
         }
-        Ok(())
+        self.call_pair(Call::Standing, &lent).map(drop)
     }
 
     /// Two devices' tables and a row.
-    fn pair(&self, source: usize, target: usize, row: usize) -> Lent {
+    fn lent(&self, pair: Pair) -> Lent {
         Lent {
-            source: self.tables[source].clone(),
-            target: self.tables[target].clone(),
-            row: row as u32,
+            source: self.tables[pair.source].clone(),
+            target: self.tables[pair.target].clone(),
+            row: pair.row as u32,
             ..Lent::default()
         }
     }
 
-    /// A call on two tables. In a run neither knows of a later time of the other than the other itself.
-    fn call_pair(&self, call: Call, lent: &Lent) -> Result<Outcome, Trouble> {
+    /// A call on two tables. In a run neither knows of a later time of the other than the other itself. Of two widths
+    /// there is no outcome: the call is refused.
+    fn call_pair(&self, call: Call, lent: &Lent) -> Result<Option<Outcome>, Trouble> {
         let outcome = self.judge.call(call, lent)?;
         let number = outcome.answer.number;
-        hold(number != 6 && number != 7, || {
-            format!("{} gives {number} in a run", call.name())
-        })?;
-        Ok(outcome)
+        let alike = width(&lent.source) == width(&lent.target);
+        hold(
+            number != 6 && number != 7 && alike == (number != 19),
+            || format!("{} gives {number} in a run", call.name()),
+        )?;
+        Ok(alike.then_some(outcome))
     }
 
     /// Whether the call was refused because the device has counted to the end, and it has: the history doesn't end.
@@ -298,10 +280,7 @@ impl Desk<'_> {
         said: Option<u32>,
         refusal: u32,
     ) -> Result<(), Trouble> {
-        let count = said.map(|count| match count {
-            0 => 0,
-            _ => self.counters[device] + count,
-        });
+        let count = said.map(|count| self.record.count_of(device, count));
         let answer = outcome.answer;
         let agreed = match count {
             Some(count) => answer.number == 0 && answer.count == count,
@@ -314,48 +293,9 @@ impl Desk<'_> {
         self.agree_everywhere(device)
     }
 
-    /// A device's table and its history tell the same of every sheet: what it is, by which event, and which events
-    /// of the sheet have been taken into account.
+    /// A device's table and its history tell the same of every sheet.
     fn agree_everywhere(&self, device: usize) -> Result<(), Trouble> {
-        let table = &self.tables[device];
-        for &row in &self.sheets {
-            let sheet = self.history.sheet(device as u32, row as u32);
-            let (kind, last, birth) = match sheet.state {
-                State::Never => (NEVER, None, None),
-                State::Live { last, birth } => (LIVE, Some(last), Some(birth)),
-                State::Removed { last } => (REMOVED, Some(last), None),
-            };
-            let agreed = at(table, row, word::KIND) == kind
-                && stamp(table, row, word::STAMP) == self.stamp_of(last)
-                && stamp(table, row, word::BIRTH) == self.stamp_of(birth);
-            hold(agreed, || {
-                format!("row {row} of device {device}: the history has {sheet:?}")
-            })?;
-
-            let known = known(table, row);
-            for event in self.events_of(row) {
-                let (device_of_event, count) = self.stamp_of(Some(event));
-                let covered = known[device_of_event as usize] >= count;
-                hold(covered == sheet.taken.contains(&event), || {
-                    format!("row {row} of device {device}: covers {event:?}, {covered}, the history has {sheet:?}")
-                })?;
-            }
-        }
-        Ok(())
-    }
-
-    /// The stamp that names an event of the history; that of none is empty.
-    fn stamp_of(&self, event: Option<Event>) -> (u32, u32) {
-        event.map_or((0, 0), |event| {
-            let start = self.counters[event.device as usize];
-            (event.device, start + event.count)
-        })
-    }
-
-    /// All events of a sheet so far.
-    fn events_of(&self, row: usize) -> BTreeSet<Event> {
-        (0..self.tables.len() as u32)
-            .flat_map(|device| self.history.sheet(device, row as u32).taken.iter().copied())
-            .collect()
+        let agrees = self.record.agrees(device, &self.tables[device]);
+        agrees.map_err(Trouble::History)
     }
 }

@@ -2,15 +2,17 @@
 
 use std::cell::{Cell, RefCell};
 
+use second::layout::Width;
+use second::trial::look::kind;
+
 use crate::call::{perform, Call, Lent, Outcome};
-use crate::layout::{at, word};
 use crate::program::Program;
 
-/// How often each thing was seen.
+/// How often each thing was seen at one width.
 #[derive(Clone, Debug, Default, PartialEq, Eq)]
 pub struct Tally {
     /// By call, in the order of `Call::ALL`, and by number.
-    pub numbers: [[u64; 18]; 7],
+    pub numbers: [[u64; 20]; 8],
     /// By kind in the source, kind in the target and answer, of the sheets of passes.
     pub sheets: [[[u64; 4]; 3]; 3],
     /// Walked and passed over, of the folders of passes.
@@ -25,8 +27,7 @@ impl Tally {
         self.numbers[call as usize][number as usize]
     }
 
-    /// How many calls were made.
-    pub fn calls(&self) -> u64 {
+    fn calls(&self) -> u64 {
         self.numbers.iter().flatten().sum()
     }
 
@@ -45,7 +46,7 @@ impl Tally {
     }
 
     fn add_row(&mut self, before: &Lent, row: usize, answer: usize) {
-        let kind = |table: &[u32]| at(table, row, word::KIND) as usize;
+        let kind = |table: &[u32]| kind(table, row) as usize;
         match answer {
             0..=3 => self.sheets[kind(&before.source)][kind(&before.target)][answer] += 1,
             _ => self.folders[answer - 4] += 1,
@@ -59,14 +60,14 @@ pub struct Failure {
     /// The call.
     pub call: Call,
     /// What was lent and told to it.
-    pub lent: Lent,
+    pub lent: Box<Lent>,
 }
 
 /// Holds a program against the second one.
 pub struct Judge {
     program: Program,
     second: Program,
-    tally: RefCell<Tally>,
+    tallies: RefCell<[Tally; 2]>,
     turn: Cell<usize>,
 }
 
@@ -76,14 +77,19 @@ impl Judge {
         Judge {
             program,
             second,
-            tally: RefCell::default(),
+            tallies: RefCell::default(),
             turn: Cell::new(0),
         }
     }
 
-    /// What has been seen so far.
-    pub fn tally(&self) -> Tally {
-        self.tally.borrow().clone()
+    /// What has been seen so far at a width.
+    pub fn tally(&self, width: Width) -> Tally {
+        self.tallies.borrow()[width as usize].clone()
+    }
+
+    /// How many calls were made.
+    pub fn calls(&self) -> u64 {
+        self.tallies.borrow().iter().map(Tally::calls).sum()
     }
 
     /// Makes the call on both sides. Gives the common outcome.
@@ -92,10 +98,11 @@ impl Judge {
         let outcome = perform(&self.program, call, lent, self.turn.get() % 8);
         let expected = perform(&self.second, call, lent, 0);
         if outcome == expected && faults(call, lent, &outcome).is_empty() {
-            self.tally.borrow_mut().add(call, lent, &outcome);
+            let width = lent.width(call) as usize;
+            self.tallies.borrow_mut()[width].add(call, lent, &outcome);
             Ok(outcome)
         } else {
-            let lent = lent.clone();
+            let lent = Box::new(lent.clone());
             Err(Failure { call, lent })
         }
     }
@@ -136,7 +143,8 @@ impl Judge {
         differ("number".to_owned(), ours.number, theirs.number);
         differ("count".to_owned(), ours.count, theirs.count);
         differ("side".to_owned(), outcome.side, expected.side);
-        for ((name, ours), (_, theirs)) in buffers(&outcome.lent).zip(buffers(&expected.lent)) {
+        let buffers = outcome.lent.buffers().into_iter();
+        for ((name, ours), (_, theirs)) in buffers.zip(expected.lent.buffers()) {
             for (place, (&ours, &theirs)) in ours.iter().zip(theirs).enumerate() {
                 differ(format!("{name}[{place}]"), ours, theirs);
             }
@@ -145,27 +153,21 @@ impl Judge {
     }
 }
 
-/// The lent buffers by name.
-fn buffers(lent: &Lent) -> impl Iterator<Item = (&'static str, &Vec<u32>)> {
-    [
-        ("source", &lent.source),
-        ("target", &lent.target),
-        ("plan", &lent.plan),
-        ("answers", &lent.answers),
-    ]
-    .into_iter()
-}
-
 /// What no outcome may be, whatever another program says.
 fn faults(call: Call, before: &Lent, outcome: &Outcome) -> Vec<String> {
     let refused = outcome.answer.number != 0;
+    let mut buffers = before.buffers().into_iter().zip(outcome.lent.buffers());
+    let only_read_has_changed = buffers
+        .any(|((name, before), (_, after))| before != after && !call.changes().contains(&name));
     let faults = [
         (
             !outcome.guards_held,
             "a word outside the lent buffers has changed",
         ),
         (
-            !call.numbers().contains(&outcome.answer.number),
+            !call
+                .numbers_at(before.width(call))
+                .any(|number| number == outcome.answer.number),
             "this call can't give this number",
         ),
         (
@@ -181,12 +183,8 @@ fn faults(call: Call, before: &Lent, outcome: &Outcome) -> Vec<String> {
             "a refusal has changed a word",
         ),
         (
-            outcome.lent.source != before.source || outcome.lent.plan != before.plan,
+            only_read_has_changed,
             "a buffer that is only read has changed",
-        ),
-        (
-            matches!(call, Call::Check | Call::Beneath | Call::Standing) && outcome.lent != *before,
-            "a call that only reads has changed a word",
         ),
     ];
     let told = faults.into_iter().filter(|(wrong, _)| *wrong);

@@ -1,11 +1,11 @@
-//! What is lent to the calls: sound, damaged, garbage, and at the limits.
+//! What is lent to the calls, at both widths: sound, damaged, garbage, and at the limits.
+
+use second::layout::{head, word, Kind, Width, MOST_LEVELS, MOST_ROWS};
+use second::trial::look::{fresh, is_folder, mend, rows, size, width};
+use second::trial::{plans, Random};
 
 use crate::call::Lent;
 use crate::damage::damage;
-use crate::layout::{at, is_folder, mend, place, rows};
-use crate::layout::{fresh, head, word, DEVICES, FOLDER, MOST_LEVELS, MOST_ROWS, WIDTH};
-use crate::plans;
-use crate::random::Random;
 use crate::sound::{knowing_more, World};
 
 /// Made-up sound tables of at most so many rows, with numbers that mostly fit. Now and then the two don't go together.
@@ -13,17 +13,15 @@ pub fn sound(random: &mut Random, most_rows: usize) -> Lent {
     let rows = random.within(1..most_rows + 1);
     let plan = plans::right(random, rows);
     let world = World::new(random, plan);
-    let [one, other] = two_devices(random);
-    let source = world.table(random, one);
-    let target = world.table(random, other);
+    let [(one_width, one), (width, other)] = two_devices(random);
     let mut lent = Lent {
-        source,
-        target,
+        source: world.table(random, one_width, one),
+        target: world.table(random, width, other),
         ..Lent::default()
     };
     match random.within(0..24) {
-        0 => lent.source = world.table(random, other),
-        1 => lent.target = other_tree(random, &world, other),
+        0 => lent.source = world.table(random, width, other),
+        1 => lent.target = other_tree(random, &world).table(random, width, other),
         2 => lent.source = knowing_more(random, &lent.source),
         3 => lent.target = knowing_more(random, &lent.target),
         _ => (),
@@ -51,60 +49,85 @@ pub fn damaged(random: &mut Random, most_rows: usize) -> Lent {
 
 /// Words without any meaning; sometimes the head has one, sometimes the rows too.
 pub fn garbage(random: &mut Random) -> Lent {
-    let length = random.one_of(&[0, 1, 2, 3, 39, 40, 41, 79, 80, 81, 119, 120, 160, 400]);
+    let width = random.one_of(&Width::BOTH);
+    let row = width.row();
+    let rows = random.one_of(&[0, 1, 2, 3, 4, 10]);
+    let whole = row * rows;
+    let length = random.one_of(&[whole, whole, whole + 1, whole.saturating_sub(1), rows]);
     let mut words = |length: usize| -> Vec<u32> {
         let zero_once_in = random.within(1..5);
-        let mut word = || {
-            if random.once_in(zero_once_in) {
-                0
-            } else {
-                random.odd_word()
-            }
+        let mut word = || match random.once_in(zero_once_in) {
+            true => 0,
+            false => random.odd_word(),
         };
         (0..length).map(|_| word()).collect()
     };
     let mut lent = Lent {
         source: words(length),
         target: words(length),
-        plan: words(length / WIDTH),
-        answers: words(length / WIDTH),
+        wide: words(Width::Wide.row() * rows),
+        plan: words(rows),
+        answers: words(rows),
         ..Lent::default()
     };
     let meaning = random.within(0..3);
-    for (device, table) in [&mut lent.source, &mut lent.target].into_iter().enumerate() {
-        if rows(table) > 0 && meaning > 0 {
-            table[head::ROWS + 1..WIDTH].fill(0);
-            table[head::DEVICE] = device as u32;
-            table[head::ROWS] = rows(table) as u32;
-            table[place(0, word::KIND)] = FOLDER;
-            table[place(0, word::SIZE)] = rows(table) as u32;
-        }
-        if meaning > 1 {
-            for row in 1..rows(table) {
-                table[place(row, word::KIND)] %= 3;
-                table[place(row, word::SIZE)] = 1;
-            }
-            mend(table);
+    for (device, table) in (0..).zip([&mut lent.source, &mut lent.target]) {
+        if table.len() >= 2 * row && meaning > 0 {
+            mean(table, width, device, meaning > 1);
         }
     }
-    tell_anything(random, &mut lent);
+    lent.columns = random.odd_word();
+    lent.device = random.odd_word();
+    lent.row = random.odd_word();
+    lent.act = random.odd_word();
+    lent.mark = random.odd_word();
     lent
 }
 
-/// A plan, right or wrong, with room for its table, and a device.
+/// Gives words a right head and root; and if so wished, sheets beneath it and right summaries.
+fn mean(table: &mut [u32], width: Width, device: u32, all: bool) {
+    let head = fresh(width, device, &[]);
+    table[..width.row()].copy_from_slice(&head);
+    let rows = rows(table);
+    table[head::ROWS] = rows as u32;
+    table[width.place(0, word::KIND)] = Kind::Folder.number();
+    table[width.place(0, word::SIZE)] = rows as u32;
+    if all {
+        for row in 1..rows {
+            table[width.place(row, word::KIND)] %= 3;
+            table[width.place(row, word::SIZE)] = 1;
+        }
+        mend(table);
+    }
+}
+
+/// A plan, right or wrong, with room for its table, columns and a device.
 pub fn plan(random: &mut Random, most_rows: usize) -> Lent {
     let plan = plans::any(random, most_rows);
-    let room = WIDTH * (plan.len() + 1);
+    let width = random.one_of(&Width::BOTH);
+    let columns = width.columns() as u32;
+    let no_columns = random.one_of(&[0, 7, 9, 15, 17, 24, u32::MAX]);
+    let room = width.length(plan.len());
+    let row = width.row();
     let length = match random.within(0..12) {
         0 => room + 1,
         1 => room - 1,
-        2 => random.one_of(&[0, WIDTH, room - WIDTH, room + WIDTH]),
+        2 => random.one_of(&[0, row, room - row, room + row]),
+        3 => Width::BOTH[1 - width as usize].length(plan.len()),
         _ => room,
     };
     Lent {
         target: (0..length).map(|_| random.odd_word()).collect(),
         plan,
-        device: random.one_of(&[0, 1, 2, 3, 4, 5, 6, 7, 7, 8, u32::MAX]),
+        columns: match random.once_in(12) {
+            true => no_columns,
+            false => columns,
+        },
+        device: match random.within(0..12) {
+            0 => random.one_of(&[columns, u32::MAX]),
+            1 => columns - 1,
+            _ => random.within(0..width.columns()) as u32,
+        },
         ..Lent::default()
     }
 }
@@ -119,57 +142,58 @@ pub fn limits() -> impl Iterator<Item = Lent> {
     let both = [(MOST_LEVELS - 1, MOST_ROWS), (MOST_LEVELS, MOST_ROWS)]
         .into_iter()
         .map(|(folders, rows)| plans::chain(folders, rows - folders));
-    long.chain(deep).chain(both).flat_map(at_limit)
+    let plans = long.chain(deep).chain(both);
+    plans.flat_map(|plan| Width::BOTH.map(|width| at_limit(width, &plan)).concat())
 }
 
 /// The tables of a plan with counters at the end of counting, for each event, at the last row.
-fn at_limit(plan: Vec<u32>) -> impl Iterator<Item = Lent> {
-    let counters = [0, 1, u32::MAX - 1, u32::MAX];
-    let acts = counters
+fn at_limit(width: Width, plan: &[u32]) -> Vec<Lent> {
+    let last = plan.len() - 1;
+    let last_device = width.columns() as u32 - 1;
+    let table = |device: u32, counter: u32, act: u32| {
+        let mut table = fresh(width, device, plan);
+        table[head::COUNTER] = counter;
+        if !is_folder(&table, last) && counter > 0 && act > 1 {
+            let sheet = [1, 1, device, counter, device, 1, 9];
+            table[width.place(last, 0)..][..sheet.len()].copy_from_slice(&sheet);
+        }
+        mend(&mut table);
+        table
+    };
+    let lent = |counter: u32, act: u32| Lent {
+        source: table(0, counter, act),
+        target: table(last_device, counter, act),
+        wide: vec![9; Width::Wide.length(plan.len())],
+        answers: vec![9],
+        row: last as u32,
+        act,
+        plan: plan.to_vec(),
+        columns: width.columns() as u32,
+        ..Lent::default()
+    };
+    [0, 1, u32::MAX - 1, u32::MAX]
         .into_iter()
-        .flat_map(|counter| (1..4).map(move |act| (counter, act)));
-    acts.map(move |(counter, act)| {
-        let mut tables = [0, 1].map(|device| fresh(device, &plan));
-        let last = plan.len() - 1;
-        for table in &mut tables {
-            table[head::COUNTER] = counter;
-            let sheet = place(last, word::KIND);
-            if table[sheet] != FOLDER && counter > 0 && act > 1 {
-                let device = table[head::DEVICE];
-                table[sheet..sheet + 7].copy_from_slice(&[1, 1, device, counter, device, 1, 9]);
-            }
-            mend(table);
-        }
-        let [source, target] = tables;
-        Lent {
-            source,
-            target,
-            answers: vec![9],
-            row: last as u32,
-            act,
-            plan: plan.clone(),
-            ..Lent::default()
-        }
-    })
+        .flat_map(|counter| [1, 2, 3].map(|act| lent(counter, act)))
+        .collect()
 }
 
 /// Two tables of a tree that breaks the order.
 fn misshapen(random: &mut Random) -> Lent {
     let plan = plans::any(random, 8);
     let right = plans::right(random, plan.len().clamp(1, MOST_ROWS));
-    let [one, other] = two_devices(random);
+    let [(one_width, one), (width, other)] = two_devices(random);
     let plans = random.one_of(&[[&plan, &plan], [&plan, &right], [&right, &plan]]);
     let mut lent = Lent {
-        source: fresh(one, plans[0]),
-        target: fresh(other, plans[1]),
+        source: fresh(one_width, one, plans[0]),
+        target: fresh(width, other, plans[1]),
         ..Lent::default()
     };
     tell(random, &mut lent);
     lent
 }
 
-/// A table on another tree, often almost the same.
-fn other_tree(random: &mut Random, world: &World, device: u32) -> Vec<u32> {
+/// The same world on another tree, often almost the same.
+fn other_tree(random: &mut Random, world: &World) -> World {
     let rows = world.plan.len();
     let mut plan = world.plan.clone();
     let row = random.within(0..rows);
@@ -182,20 +206,26 @@ fn other_tree(random: &mut Random, world: &World, device: u32) -> Vec<u32> {
             plan = plans::right(random, rows);
         }
     }
-    let world = World {
+    World {
         plan,
         counters: world.counters,
+    }
+}
+
+/// Two devices and the widths of their tables, mostly alike.
+fn two_devices(random: &mut Random) -> [(Width, u32); 2] {
+    let width = random.one_of(&Width::BOTH);
+    let other_width = match random.once_in(10) {
+        true => random.one_of(&Width::BOTH),
+        false => width,
     };
-    world.table(random, device)
+    let one = random.within(0..width.columns());
+    let columns = other_width.columns();
+    let other = (one + random.within(1..columns)) % columns;
+    [(width, one as u32), (other_width, other as u32)]
 }
 
-fn two_devices(random: &mut Random) -> [u32; 2] {
-    let one = random.within(0..DEVICES);
-    let other = (one + random.within(1..DEVICES)) % DEVICES;
-    [one as u32, other as u32]
-}
-
-/// Chooses the numbers, so that they mostly fit the target.
+/// Chooses the numbers and the outputs, so that they mostly fit the target.
 fn tell(random: &mut Random, lent: &mut Lent) {
     let rows = rows(&lent.target);
     lent.row = match random.within(0..24) {
@@ -213,18 +243,25 @@ fn tell(random: &mut Random, lent: &mut Lent) {
         act => act as u32 % 3 + 1,
     };
     lent.mark = random.odd_word();
-    let size = if (lent.row as usize) < rows {
-        at(&lent.target, lent.row as usize, word::SIZE).min(300) as usize
-    } else {
-        1
+    let size = match lent.row as usize {
+        row if row < rows => size(&lent.target, row).min(300),
+        _ => 1,
     };
+    lent.answers = output(random, size, &[0, 1, rows]);
+    let (wide, narrow) = (Width::Wide.length(rows), Width::Narrow.length(rows));
+    lent.wide = output(random, wide, &[0, narrow, wide + Width::Wide.row()]);
+    lent.columns = width(&lent.target).columns() as u32;
+}
+
+/// Words to be written over, mostly as many as are right.
+fn output(random: &mut Random, right: usize, wrong: &[usize]) -> Vec<u32> {
     let length = match random.within(0..24) {
-        0 => size + 1,
-        1 => size - size.min(1),
-        2 => random.one_of(&[0, 1, rows]),
-        _ => size,
+        0 => right + 1,
+        1 => right.saturating_sub(1),
+        2 => random.one_of(wrong),
+        _ => right,
     };
-    lent.answers = (0..length).map(|_| random.odd_word()).collect();
+    vec![random.odd_word(); length]
 }
 
 /// One of a table's sheets.
@@ -233,12 +270,4 @@ fn some_sheet(random: &mut Random, table: &[u32]) -> Option<usize> {
         .filter(|&row| !is_folder(table, row))
         .collect();
     (!sheets.is_empty()).then(|| random.one_of(&sheets))
-}
-
-/// Chooses any numbers.
-fn tell_anything(random: &mut Random, lent: &mut Lent) {
-    lent.device = random.odd_word();
-    lent.row = random.odd_word();
-    lent.act = random.odd_word();
-    lent.mark = random.odd_word();
 }

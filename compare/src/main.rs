@@ -2,19 +2,21 @@
 //! random comes from the seed, and N times the work takes N times as long.
 //!
 //! The last line is `N passed, M failed`: a part of the comparison counts as one, and so does each thing that must have
-//! been seen: each number of each call, each answer for each pair of kinds, each side on which a row stands.
+//! been seen at each width: each number of each call, each answer for each pair of kinds, each side on which a row
+//! stands.
 
 use std::env;
 use std::process::ExitCode;
 use std::time::Instant;
 
 use compare::call::{Call, Lent};
-use compare::judge::{Judge, Tally};
+use compare::judge::Judge;
 use compare::lents;
 use compare::program::{PRODUCT, SECOND};
-use compare::random::Random;
 use compare::run::Run;
 use compare::show;
+use second::layout::Width;
+use second::trial::Random;
 
 /// The seed, if none is given.
 const SEED: u64 = 20_050_214;
@@ -47,52 +49,52 @@ struct Part {
 const PARTS: &[Part] = &[
     Part {
         name: "runs on small trees",
-        cases: 5000,
+        cases: 8000,
         compare: |judge, random| run(judge, random, 8, 100),
     },
     Part {
         name: "runs of one or two sheets",
-        cases: 3000,
+        cases: 5000,
         compare: |judge, random| run(judge, random, 3, 100),
     },
     Part {
         name: "runs on middling trees",
-        cases: 700,
+        cases: 1200,
         compare: |judge, random| run(judge, random, 40, 150),
     },
     Part {
         name: "runs on large trees",
-        cases: 40,
+        cases: 80,
         compare: |judge, random| run(judge, random, 256, 150),
     },
     Part {
         name: "plans",
-        cases: 200_000,
+        cases: 400_000,
         compare: |judge, random| call(judge, Call::New, &lents::plan(random, 20)),
     },
     Part {
         name: "made-up sound tables",
-        cases: 250_000,
+        cases: 500_000,
         compare: |judge, random| calls(judge, &lents::sound(random, 12)),
     },
     Part {
         name: "large made-up sound tables",
-        cases: 1500,
+        cases: 3000,
         compare: |judge, random| calls(judge, &lents::sound(random, 256)),
     },
     Part {
         name: "damaged tables",
-        cases: 400_000,
+        cases: 700_000,
         compare: |judge, random| calls(judge, &lents::damaged(random, 12)),
     },
     Part {
         name: "large damaged tables",
-        cases: 3000,
+        cases: 5000,
         compare: |judge, random| calls(judge, &lents::damaged(random, 256)),
     },
     Part {
         name: "garbage",
-        cases: 300_000,
+        cases: 500_000,
         compare: |judge, random| calls(judge, &lents::garbage(random)),
     },
 ];
@@ -112,7 +114,9 @@ fn main() -> ExitCode {
         score.add(part.play(&judge, seed, number, times));
     }
     score.add(limits(&judge));
-    seen(&judge.tally(), &mut score);
+    for width in Width::BOTH {
+        seen(&judge, width, &mut score);
+    }
     println!("{} passed, {} failed", score.passed, score.failed);
     if score.failed == 0 {
         ExitCode::SUCCESS
@@ -155,7 +159,7 @@ impl Part {
     /// Compares the cases of this part. The first that fails ends it, in its smallest form.
     fn play(&self, judge: &Judge, seed: u64, number: u64, times: u64) -> bool {
         let start = Instant::now();
-        let calls = judge.tally().calls();
+        let calls = judge.calls();
         let cases = self.cases * times;
         for case in 0..cases {
             let mut random = Random::numbered(seed, [number, case]);
@@ -167,7 +171,7 @@ impl Part {
                 return false;
             }
         }
-        let calls = judge.tally().calls() - calls;
+        let calls = judge.calls() - calls;
         println!(
             "{}: {cases} cases, {calls} calls alike ({:.1} s)",
             self.name,
@@ -197,19 +201,20 @@ fn calls(judge: &Judge, lent: &Lent) -> Result<(), String> {
 
 /// Compares every call at and around the limits.
 fn limits(judge: &Judge) -> bool {
-    let before = judge.tally().calls();
+    let before = judge.calls();
     for lent in lents::limits() {
         if let Err(what) = calls(judge, &lent) {
             println!("limits: a case fails; the smallest like it:\n{what}");
             return false;
         }
     }
-    println!("limits: {} calls alike", judge.tally().calls() - before);
+    println!("limits: {} calls alike", judge.calls() - before);
     true
 }
 
-/// Prints how often everything was seen; what must be seen and wasn't has failed.
-fn seen(tally: &Tally, score: &mut Score) {
+/// Prints how often everything was seen at a width; what must be seen and wasn't has failed.
+fn seen(judge: &Judge, width: Width, score: &mut Score) {
+    let tally = judge.tally(width);
     let mut see = |what: &str, times: u64| {
         println!(
             "  {what}: {times}{}",
@@ -221,16 +226,17 @@ fn seen(tally: &Tally, score: &mut Score) {
         );
         score.add(times > 0);
     };
-    println!("how often each call gave each number:");
+    println!("with {} columns, how often", width.columns());
+    println!("each call gave each number:");
     for call in Call::ALL {
-        for &number in call.numbers() {
+        for number in call.numbers_at(width) {
             see(
                 &format!("{} {number}", call.name()),
                 tally.given(call, number),
             );
         }
     }
-    println!("how often a pass gave each answer that the rules have for a sheet, by its kinds in source and target:");
+    println!("a pass gave each answer that the rules have for a sheet, by its kinds in source and target:");
     for ((source, target), answers) in RULED {
         for &answer in answers {
             let times = tally.sheets[source][target][answer];
@@ -240,11 +246,11 @@ fn seen(tally: &Tally, score: &mut Score) {
             );
         }
     }
-    println!("how often a folder was walked, and passed over:");
+    println!("a folder was walked, and passed over:");
     for (answer, &times) in (4..).zip(&tally.folders) {
         see(&answer.to_string(), times);
     }
-    println!("how often the row that stands was in neither table, the source's, the target's:");
+    println!("the row that stands was in neither table, the source's, the target's:");
     for (side, &times) in tally.sides.iter().enumerate() {
         see(&side.to_string(), times);
     }

@@ -11,7 +11,9 @@ pub struct Program {
     /// `kf_check`.
     pub check: fn(&[u32]) -> Answer,
     /// `kf_new`.
-    pub new: fn(u32, &[u32], &mut [u32]) -> Answer,
+    pub new: fn(u32, u32, &[u32], &mut [u32]) -> Answer,
+    /// `kf_widen`.
+    pub widen: fn(&[u32], &mut [u32]) -> Answer,
     /// `kf_event`.
     pub event: fn(&mut [u32], u32, u32, u32) -> Answer,
     /// `kf_pass`.
@@ -31,6 +33,7 @@ pub const PRODUCT: Program = Program {
     name: "product",
     check: raw::check,
     new: raw::new,
+    widen: raw::widen,
     event: raw::event,
     pass: raw::pass,
     settle: raw::settle,
@@ -43,7 +46,8 @@ pub const PRODUCT: Program = Program {
 pub const SECOND: Program = Program {
     name: "second",
     check: |table| told(second::check(table)),
-    new: |device, plan, table| told(second::new(device, plan, table)),
+    new: |columns, device, plan, table| told(second::new(columns, device, plan, table)),
+    widen: |table, wide| told(second::widen(table, wide)),
     event: |table, row, event, mark| told(second::event(table, row, event, mark)),
     pass: |source, target, row, answers| told(second::pass(source, target, row, answers)),
     settle: |source, target, row, choice, mark| {

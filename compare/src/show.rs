@@ -2,10 +2,11 @@
 
 use std::fmt::Write;
 
+use second::trial::look::{rows, width};
+
 use crate::call::{Call, Lent};
 use crate::desk::Trouble;
 use crate::judge::{Failure, Judge};
-use crate::layout::{rows, WIDTH};
 use crate::run::Run;
 use crate::shrink;
 
@@ -14,7 +15,7 @@ const MOST_LINES: usize = 40;
 
 /// The smallest case like this failure, in words.
 pub fn failure(judge: &Judge, failure: &Failure) -> String {
-    let lent = shrink::lent(judge, failure.call, failure.lent.clone());
+    let lent = shrink::lent(judge, failure.call, *failure.lent.clone());
     let mut text = call(failure.call, &lent);
     let complaints = judge.complaints(failure.call, &lent);
     for line in complaints.iter().take(MOST_LINES) {
@@ -43,6 +44,7 @@ pub fn trouble(judge: &Judge, run: Run, trouble: &Trouble) -> String {
 /// A call with all that is lent and told to it.
 fn call(call: Call, lent: &Lent) -> String {
     let Lent {
+        columns,
         device,
         row,
         act,
@@ -56,9 +58,14 @@ fn call(call: Call, lent: &Lent) -> String {
     match call {
         Call::Check => format!("{name}(table)\n{}", only()),
         Call::New => format!(
-            "{name}(device {device}, plan {:?}, table of {} words)\n",
+            "{name}({columns} columns, device {device}, plan {:?}, table of {} words)\n",
             lent.plan,
             lent.target.len()
+        ),
+        Call::Widen => format!(
+            "{name}(table, wide of {} words)\n{}",
+            lent.wide.len(),
+            only()
         ),
         Call::Event => format!(
             "{name}(table, row {row}, event {act}, mark {mark})\n{}",
@@ -91,7 +98,7 @@ fn table(name: &str, table: &[u32]) -> String {
         table.len(),
         rows(table)
     );
-    for (index, words) in table.chunks(WIDTH).enumerate() {
+    for (index, words) in table.chunks(width(table).row()).enumerate() {
         match index.checked_sub(1) {
             None => text.push_str("    head: "),
             Some(row) => write!(text, "    row {row}:").expect("a string takes any text"),

@@ -1,9 +1,11 @@
 //! The smallest case that still fails.
 
+use second::layout::{head, word, Time, Width};
+use second::trial::look::{counts, is_folder, mend, narrowed, place, rows, size};
+use second::trial::plans;
+
 use crate::call::{Call, Lent};
 use crate::judge::Judge;
-use crate::layout::{at, head, is_folder, mend, place, rows, word, DEVICES, WIDTH};
-use crate::plans;
 use crate::run::{Run, Step};
 
 /// How many smaller cases are tried at most.
@@ -55,6 +57,10 @@ pub fn lent(judge: &Judge, call: Call, mut lent: Lent) -> Lent {
     }
     if call != Call::New {
         lent.plan.clear();
+        lent.columns = 0;
+    }
+    if call != Call::Widen {
+        lent.wide.clear();
     }
     if call != Call::Pass {
         lent.answers.clear();
@@ -70,6 +76,7 @@ pub fn run(judge: &Judge, run: Run) -> Run {
 impl Shrinks for Lent {
     const WAYS: &'static [Way<Lent>] = &[
         fewer_rows,
+        fewer_columns,
         fewer_events,
         fewer_counts,
         smaller_words,
@@ -77,8 +84,8 @@ impl Shrinks for Lent {
     ];
 
     fn size(&self) -> (usize, usize, u128) {
-        let buffers = [&self.source, &self.target, &self.plan, &self.answers];
-        let numbers = [self.device, self.row, self.act, self.mark];
+        let buffers = self.buffers().map(|(_, words)| words);
+        let numbers = [self.columns, self.device, self.row, self.act, self.mark];
         let words = || buffers.into_iter().flatten().chain(&numbers);
         (
             buffers.into_iter().map(Vec::len).sum(),
@@ -129,19 +136,23 @@ fn fewer_rows(lent: &Lent, number: usize) -> Option<Option<Lent>> {
     if let Some(plan) = plans::without(&lent.plan, row, all_beneath) {
         let gone = lent.plan.len() - plan.len();
         fewer.plan = plan;
-        let length = fewer.target.len();
-        fewer.target.truncate(length.saturating_sub(gone * WIDTH));
+        shorten(&mut fewer.target, gone * lent.width(Call::New).row());
     }
     let gone = rows(&lent.target) - rows(&fewer.target);
+    shorten(&mut fewer.wide, gone * Width::Wide.row());
     let start = lent.row as usize;
     if start > row {
         fewer.row = start.saturating_sub(gone) as u32;
     }
-    let answers = lent.answers.len();
-    if (start..start.saturating_add(answers)).contains(&row) {
-        fewer.answers.truncate(answers.saturating_sub(gone));
+    if (start..start.saturating_add(lent.answers.len())).contains(&row) {
+        shorten(&mut fewer.answers, gone);
     }
     Some(Some(fewer))
+}
+
+/// Takes words away at the end.
+fn shorten(words: &mut Vec<u32>, gone: usize) {
+    words.truncate(words.len().saturating_sub(gone));
 }
 
 /// Takes a row of a table away, with all beneath it or not; every folder that held it is smaller.
@@ -151,20 +162,37 @@ fn remove_rows(table: &mut Vec<u32>, row: usize, all_beneath: bool) {
         return;
     }
     let gone = if all_beneath {
-        (at(table, row, word::SIZE).max(1) as usize).min(rows - row)
+        size(table, row).max(1).min(rows - row)
     } else {
         1
     };
     for above in 0..row {
-        let size = at(table, above, word::SIZE);
-        if is_folder(table, above) && size as usize > row - above {
-            table[place(above, word::SIZE)] = size.saturating_sub(gone as u32);
+        let size = place(table, above, word::SIZE);
+        if is_folder(table, above) && table[size] as usize > row - above {
+            table[size] = table[size].saturating_sub(gone as u32);
         }
     }
     if table[head::ROWS] as usize == rows {
         table[head::ROWS] -= gone as u32;
     }
-    table.drain(place(row, 0)..place(row + gone, 0));
+    table.drain(place(table, row, 0)..place(table, row + gone, 0));
+}
+
+/// With narrow tables, or only one of them.
+fn fewer_columns(lent: &Lent, number: usize) -> Option<Option<Lent>> {
+    let mut fewer = lent.clone();
+    let tables: &mut [&mut Vec<u32>] = match number {
+        0 => &mut [&mut fewer.source, &mut fewer.target],
+        1 => &mut [&mut fewer.source],
+        2 => &mut [&mut fewer.target],
+        _ => return None,
+    };
+    for table in tables {
+        if rows(table) > 0 {
+            **table = narrowed(table);
+        }
+    }
+    Some(Some(fewer))
 }
 
 /// With a sheet to which nothing has happened.
@@ -178,8 +206,9 @@ fn fewer_events(lent: &Lent, number: usize) -> Option<Option<Lent>> {
         return Some(None);
     }
     Some(Some(changed(lent, number, |table| {
-        table[place(row, word::KIND)] = 0;
-        table[place(row, word::STAMP)..place(row, word::FLOOR)].fill(0);
+        let row = place(table, row, 0);
+        table[row + word::KIND] = 0;
+        table[row + word::STAMP..row + word::VECTORS].fill(0);
     })))
 }
 
@@ -193,7 +222,8 @@ fn fewer_counts(lent: &Lent, number: usize) -> Option<Option<Lent>> {
         return Some(None);
     }
     Some(Some(changed(lent, number, |table| {
-        table[place(row, word::FLOOR + DEVICES * vector)..][..DEVICES].fill(0);
+        let counts = counts(table, row, Time::ALL[vector]);
+        table[counts].fill(0);
     })))
 }
 
@@ -216,6 +246,7 @@ fn smaller_numbers(lent: &Lent, number: usize) -> Option<Option<Lent>> {
     let (index, halved) = (number / 2, number % 2 == 1);
     let mut smaller = lent.clone();
     let numbers = [
+        &mut smaller.columns,
         &mut smaller.device,
         &mut smaller.row,
         &mut smaller.act,
@@ -231,14 +262,22 @@ fn smaller_numbers(lent: &Lent, number: usize) -> Option<Option<Lent>> {
 }
 
 impl Shrinks for Run {
-    const WAYS: &'static [Way<Run>] = &[fewer_steps, no_such_row, no_such_device, early_counters];
+    const WAYS: &'static [Way<Run>] = &[
+        fewer_steps,
+        no_such_row,
+        no_such_device,
+        early_counters,
+        narrow_starts,
+    ];
 
     fn size(&self) -> (usize, usize, u128) {
-        let counters = self.counters.iter().map(|&counter| u128::from(counter));
+        let starts = self.starts.iter();
         (
             self.steps.len(),
-            self.plan.len() + self.counters.len(),
-            counters.sum(),
+            self.plan.len() + self.starts.len(),
+            starts
+                .map(|start| u128::from(start.counter) + start.width.columns() as u128)
+                .sum(),
         )
     }
 }
@@ -276,18 +315,18 @@ fn no_such_row(run: &Run, number: usize) -> Option<Option<Run>> {
     };
     Some(Some(Run {
         steps: steps.map(moved).collect(),
-        counters: run.counters.clone(),
+        starts: run.starts.clone(),
         plan,
     }))
 }
 
 /// Without a device, and without what it took part in.
 fn no_such_device(run: &Run, number: usize) -> Option<Option<Run>> {
-    if number >= run.counters.len() || run.counters.len() <= 2 {
+    if number >= run.starts.len() || run.starts.len() <= 2 {
         return None;
     }
     let mut fewer = run.clone();
-    fewer.counters.remove(number);
+    fewer.starts.remove(number);
     fewer.steps.retain(|step| !step.devices().contains(&number));
     for step in &mut fewer.steps {
         *step = step.with_devices(|device| device - usize::from(device > number));
@@ -298,6 +337,13 @@ fn no_such_device(run: &Run, number: usize) -> Option<Option<Run>> {
 /// With a device that starts at 0.
 fn early_counters(run: &Run, number: usize) -> Option<Option<Run>> {
     let mut early = run.clone();
-    *early.counters.get_mut(number)? = 0;
+    early.starts.get_mut(number)?.counter = 0;
     Some(Some(early))
+}
+
+/// With a device that starts narrow, where it can.
+fn narrow_starts(run: &Run, number: usize) -> Option<Option<Run>> {
+    let mut narrow = run.clone();
+    narrow.starts.get_mut(number)?.width = Width::Narrow;
+    Some(Width::Narrow.has(number as u32).then_some(narrow))
 }

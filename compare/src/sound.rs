@@ -1,10 +1,11 @@
 //! Made-up sound tables: no run need ever give them.
 
-use crate::layout::{
-    columns, fresh, head, known, mend, place, rows, vector, word, Vector, DEVICES, LIVE, NEVER,
-    REMOVED,
-};
-use crate::random::Random;
+use std::array;
+
+use second::layout::{head, word, Kind, Time, Width};
+use second::trial::look::{fresh, known, mend, place, rows, set_vector, vector, width};
+use second::trial::Random;
+use second::Vector;
 
 /// What the tables of one case agree on: the tree, and how far each device has counted.
 #[derive(Clone, Debug)]
@@ -34,24 +35,24 @@ impl World {
         let most = random.one_of(&[1, 2, 4, 4, 4, u32::MAX]);
         World {
             plan,
-            counters: std::array::from_fn(|_| match random.within(0..20) {
+            counters: Vector(array::from_fn(|_| match random.within(0..20) {
                 0 => u32::MAX - random.within(0..2) as u32,
                 1 => random.odd_word(),
                 _ => random.up_to(most),
-            }),
+            })),
         }
     }
 
     /// Some table of a device in this world.
-    pub fn table(&self, random: &mut Random, device: u32) -> Vec<u32> {
-        let mut table = fresh(device, &self.plan);
-        table[head::COUNTER] = self.counters[device as usize];
+    pub fn table(&self, random: &mut Random, width: Width, device: u32) -> Vec<u32> {
+        let mut table = fresh(width, device, &self.plan);
+        table[head::COUNTER] = self.counters.count(device);
         self.know(random, &mut table);
         let kinds = random.one_of(&[
-            &[NEVER, LIVE, REMOVED][..],
-            &[NEVER, LIVE, LIVE, LIVE],
-            &[LIVE],
-            &[LIVE, REMOVED],
+            &[Kind::Never, Kind::Live, Kind::Removed][..],
+            &[Kind::Never, Kind::Live, Kind::Live, Kind::Live],
+            &[Kind::Live],
+            &[Kind::Live, Kind::Removed],
         ]);
         for row in 0..rows(&table) {
             if self.plan[row] == 0 {
@@ -79,7 +80,7 @@ impl World {
             if here {
                 let floor = match knowledge {
                     Knowledge::Everything => self.counters,
-                    _ => self.counters.map(|count| random.up_to(count)),
+                    _ => Vector(self.counters.0.map(|count| random.up_to(count))),
                 };
                 set_floor(table, row, floor);
             }
@@ -88,39 +89,42 @@ impl World {
 }
 
 /// Gives a row a floor, but for the table's own column.
-fn set_floor(table: &mut [u32], row: usize, mut floor: Vector) {
-    floor[table[head::DEVICE] as usize] = 0;
-    table[place(row, word::FLOOR)..][..DEVICES].copy_from_slice(&floor);
+fn set_floor(table: &mut [u32], row: usize, floor: Vector) {
+    let floor = floor.with(table[head::DEVICE], 0);
+    set_vector(table, row, Time::Floor, floor);
 }
 
 /// Something happens to a sheet, of which the table knows: it becomes one of these kinds.
-fn happen(random: &mut Random, table: &mut [u32], row: usize, kinds: &[u32]) {
+fn happen(random: &mut Random, table: &mut [u32], row: usize, kinds: &[Kind]) {
     let known = known(table, row);
-    let devices: Vec<usize> = (0..DEVICES).filter(|&device| known[device] > 0).collect();
+    let devices: Vec<u32> = (0..width(table).columns() as u32)
+        .filter(|&device| known.count(device) > 0)
+        .collect();
     let kind = random.one_of(kinds);
-    if devices.is_empty() || kind == NEVER {
+    if devices.is_empty() || kind == Kind::Never {
         return;
     }
-    let mut event = |place: usize| {
+    let row = place(table, row, 0);
+    let mut event = |word: usize| {
         let device = random.one_of(&devices);
-        table[place] = device as u32;
-        table[place + 1] = random.up_to(known[device] - 1) + 1;
+        table[row + word] = device;
+        table[row + word + 1] = random.up_to(known.count(device) - 1) + 1;
     };
-    event(place(row, word::STAMP));
-    if kind == LIVE {
-        event(place(row, word::BIRTH));
-        table[place(row, word::MARK)] = random.odd_word();
+    event(word::STAMP);
+    if kind == Kind::Live {
+        event(word::BIRTH);
+        table[row + word::MARK] = random.odd_word();
     }
-    table[place(row, word::KIND)] = kind;
+    table[row + word::KIND] = kind.number();
 }
 
 /// The table with one row that knows more than before, perhaps more than there is to know.
 pub fn knowing_more(random: &mut Random, table: &[u32]) -> Vec<u32> {
     let mut table = table.to_vec();
     let row = random.within(0..rows(&table));
-    let more = [random.odd_word(); DEVICES];
-    let floor = vector(&table, row, word::FLOOR);
-    set_floor(&mut table, row, columns(floor, more, u32::max));
+    let more = Vector([random.odd_word(); Vector::COLUMNS]);
+    let floor = vector(&table, row, Time::Floor);
+    set_floor(&mut table, row, floor.greatest(more));
     mend(&mut table);
     table
 }

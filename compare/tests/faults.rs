@@ -2,27 +2,28 @@
 
 use compare::call::{Call, Lent};
 use compare::judge::{Failure, Judge};
-use compare::layout::{head, place, rows, word, WIDTH};
 use compare::lents;
 use compare::program::{Answer, Program, SECOND};
-use compare::random::Random;
-use compare::run::Run;
+use compare::run::{Run, Step};
 use compare::shrink;
+use second::layout::{head, Time, Width, MOST_LEVELS};
+use second::trial::look::{counts, is_folder, rows, size, width};
+use second::trial::Random;
 
-/// The smallest failing case of a program, among so many made-up ones, sound and damaged.
+/// The smallest failing case of a program, among so many made-up ones: sound, damaged, and plans.
 fn smallest(program: Program, cases: u64) -> Option<(Call, Lent)> {
     let judge = Judge::new(program, SECOND);
     for case in 0..cases {
-        let mut random = Random::numbered(1, [0, case]);
-        let lent = if case % 2 == 0 {
-            lents::sound(&mut random, 12)
-        } else {
-            lents::damaged(&mut random, 12)
+        let random = &mut Random::numbered(1, [0, case]);
+        let lent = match case % 3 {
+            0 => lents::sound(random, 12),
+            1 => lents::damaged(random, 12),
+            _ => lents::plan(random, 12),
         };
         for call in Call::ALL {
             if let Err(Failure { call, lent }) = judge.call(call, &lent) {
                 assert!(!judge.complaints(call, &lent).is_empty());
-                return Some((call, shrink::lent(&judge, call, lent)));
+                return Some((call, shrink::lent(&judge, call, *lent)));
             }
         }
     }
@@ -31,22 +32,31 @@ fn smallest(program: Program, cases: u64) -> Option<(Call, Lent)> {
 
 /// The fault is found in this call, and told of with at most so many rows.
 fn found(program: Program, call: Call, most_rows: usize) {
-    let (found_in, lent) = smallest(program, 20_000).expect("the fault is found");
+    let (found_in, lent) = smallest(program, 30_000).expect("the fault is found");
     assert_eq!(found_in, call);
     assert!(rows(&lent.target) <= most_rows, "{lent:?}");
 }
 
+fn done(count: u32) -> Answer {
+    Answer { number: 0, count }
+}
+
+fn refused(number: u32) -> Answer {
+    Answer { number, count: 0 }
+}
+
 #[test]
 fn no_fault() {
-    assert_eq!(smallest(SECOND, 500), None);
+    assert_eq!(smallest(SECOND, 700), None);
 }
 
 #[test]
 fn last_word_of_the_head_isnt_looked_at() {
     let check = |table: &[u32]| {
         let mut table = table.to_vec();
-        if table.len() >= WIDTH {
-            table[WIDTH - 1] = 0;
+        let last = width(&table).row() - 1;
+        if let Some(word) = table.get_mut(last) {
+            *word = 0;
         }
         (SECOND.check)(&table)
     };
@@ -65,14 +75,14 @@ fn rows_counted_on_a_refusal() {
 #[test]
 fn too_many_levels() {
     // A table of one level too many is judged as if its innermost folder weren't there.
-    let check = |table: &[u32]| match (SECOND.check)(table) {
-        Answer { number: 2, .. } if rows(table) == 17 && table[place(15, word::SIZE)] == 2 => {
-            Answer {
-                number: 0,
-                count: 17,
-            }
+    let check = |table: &[u32]| {
+        let answer = (SECOND.check)(table);
+        let rows = rows(table);
+        let is_deep = rows == MOST_LEVELS + 1 && size(table, MOST_LEVELS - 1) == 2;
+        if answer.number == 2 && is_deep {
+            return done(rows as u32);
         }
-        answer => answer,
+        answer
     };
     found(Program { check, ..SECOND }, Call::Check, 17);
 }
@@ -95,9 +105,8 @@ fn newest_never_falls() {
         let before = target.to_vec();
         let answer = (SECOND.pass)(source, target, row, answers);
         if answer.number == 0 {
-            for column in word::NEWEST..word::LEAST {
-                let root = place(0, column);
-                target[root] = target[root].max(before[root]);
+            for place in counts(target, 0, Time::Newest) {
+                target[place] = target[place].max(before[place]);
             }
         }
         answer
@@ -111,10 +120,7 @@ fn counter_wraps() {
         let answer = (SECOND.event)(table, row, event, mark);
         if answer.number == 15 {
             table[head::COUNTER] = 0;
-            return Answer {
-                number: 0,
-                count: 0,
-            };
+            return done(0);
         }
         answer
     };
@@ -123,11 +129,13 @@ fn counter_wraps() {
 
 #[test]
 fn side_of_a_conflict() {
-    let standing_side = |source: &[u32], target: &[u32], row: u32| match (SECOND.standing_side)(
-        source, target, row,
-    ) {
-        0 if (SECOND.standing)(source, target, row).number == 0 => 2,
-        side => side,
+    let standing_side = |source: &[u32], target: &[u32], row: u32| {
+        let side = (SECOND.standing_side)(source, target, row);
+        let is_conflict = side == 0 && (SECOND.standing)(source, target, row).number == 0;
+        if is_conflict {
+            return 2;
+        }
+        side
     };
     let program = Program {
         standing_side,
@@ -136,7 +144,149 @@ fn side_of_a_conflict() {
     found(program, Call::Standing, 2);
 }
 
-/// Both programs have one fault: only the history can tell. Settling by own raises no time, so the conflict comes back.
+#[test]
+fn devices_of_new_tables_end_at_7() {
+    let new = |columns: u32, device: u32, plan: &[u32], table: &mut [u32]| match device {
+        8.. if columns == 16 => refused(17),
+        _ => (SECOND.new)(columns, device, plan, table),
+    };
+    found(Program { new, ..SECOND }, Call::New, 2);
+}
+
+#[test]
+fn device_of_a_new_table_before_its_columns() {
+    let new = |columns: u32, device: u32, plan: &[u32], table: &mut [u32]| match device {
+        16.. => refused(17),
+        _ => (SECOND.new)(columns, device, plan, table),
+    };
+    found(Program { new, ..SECOND }, Call::New, 0);
+}
+
+#[test]
+fn stamps_end_at_device_7() {
+    let check = |table: &[u32]| match (SECOND.check)(table) {
+        Answer { number: 0, .. } if has_late_stamp(table) => refused(3),
+        answer => answer,
+    };
+    found(Program { check, ..SECOND }, Call::Check, 2);
+}
+
+/// Whether some newest has a count of a device above 7.
+fn has_late_stamp(table: &[u32]) -> bool {
+    let newest = &table[counts(table, 0, Time::Newest)];
+    newest.iter().skip(8).any(|&count| count > 0)
+}
+
+#[test]
+fn heads_tell_8_or_16() {
+    let check = |table: &[u32]| {
+        let mut table = table.to_vec();
+        if table.get(head::WIDTH) == Some(&8) {
+            table[head::WIDTH] = 0;
+        }
+        (SECOND.check)(&table)
+    };
+    found(Program { check, ..SECOND }, Call::Check, 2);
+}
+
+#[test]
+fn widths_compared_after_places() {
+    let pass = |source: &[u32], target: &mut [u32], row: u32, answers: &mut [u32]| {
+        let answer = (SECOND.pass)(source, target, row, answers);
+        if answer.number == 19 && places_differ(source, target) {
+            return refused(4);
+        }
+        answer
+    };
+    found(Program { pass, ..SECOND }, Call::Pass, 2);
+}
+
+/// Whether sizes or folder places of two sound tables differ.
+fn places_differ(one: &[u32], other: &[u32]) -> bool {
+    let place = |table: &[u32], row| (size(table, row), is_folder(table, row));
+    rows(one) != rows(other) || (0..rows(one)).any(|row| place(one, row) != place(other, row))
+}
+
+#[test]
+fn source_read_at_the_targets_width() {
+    let settle = |source: &[u32], target: &mut [u32], row: u32, choice: u32, mark: u32| {
+        let answer = (SECOND.settle)(source, target, row, choice, mark);
+        if answer.number == 19 {
+            return refused(1);
+        }
+        answer
+    };
+    found(Program { settle, ..SECOND }, Call::Settle, 1);
+}
+
+#[test]
+fn row_that_stands_has_forty_words() {
+    let standing = |source: &[u32], target: &[u32], row: u32| {
+        let answer = (SECOND.standing)(source, target, row);
+        if answer.count == 72 {
+            return done(40);
+        }
+        answer
+    };
+    found(Program { standing, ..SECOND }, Call::Standing, 2);
+}
+
+/// Widening, after which something is done to the wide words.
+fn widen_and(table: &[u32], wide: &mut [u32], then: fn(&mut [u32])) -> Answer {
+    let answer = (SECOND.widen)(table, wide);
+    if answer.number == 0 {
+        then(wide);
+    }
+    answer
+}
+
+/// Takes the last row's floor away.
+fn forget_a_floor(wide: &mut [u32]) {
+    let floor = counts(wide, rows(wide) - 1, Time::Floor);
+    wide[floor].fill(0);
+}
+
+#[test]
+fn widening_forgets_a_floor() {
+    let widen = |table: &[u32], wide: &mut [u32]| widen_and(table, wide, forget_a_floor);
+    found(Program { widen, ..SECOND }, Call::Widen, 1);
+}
+
+#[test]
+fn widening_keeps_the_old_head() {
+    let widen = |table: &[u32], wide: &mut [u32]| {
+        widen_and(table, wide, |wide| wide[head::WIDTH] = Width::Narrow.told())
+    };
+    found(Program { widen, ..SECOND }, Call::Widen, 1);
+}
+
+#[test]
+fn wide_table_widened_again() {
+    let widen = |table: &[u32], wide: &mut [u32]| {
+        let answer = (SECOND.widen)(table, wide);
+        if answer.number == 19 && wide.len() == table.len() {
+            wide.copy_from_slice(table);
+            return done(rows(table) as u32);
+        }
+        answer
+    };
+    found(Program { widen, ..SECOND }, Call::Widen, 1);
+}
+
+/// The smallest run that fails where both programs have one fault: only the history can tell.
+fn smallest_run(faulty: Program) -> Run {
+    let judge = Judge::new(faulty, faulty);
+    let failing = (0..1000).find_map(|case| {
+        let mut random = Random::numbered(2, [0, case]);
+        let (run, played) = Run::random(&judge, &mut random, 20, 100);
+        played.is_err().then_some(run)
+    });
+    let run = shrink::run(&judge, failing.expect("the fault is found"));
+    assert!(run.play(&judge).is_err());
+    run
+}
+
+/// Settling by own raises no time, so the conflict comes back.
 #[test]
 fn settled_conflict_comes_back() {
     let settle = |source: &[u32], target: &mut [u32], row: u32, choice: u32, mark: u32| {
@@ -147,15 +297,38 @@ fn settled_conflict_comes_back() {
         }
         answer
     };
-    let faulty = Program { settle, ..SECOND };
-    let judge = Judge::new(faulty, faulty);
-    let failing = (0..1000).find_map(|case| {
-        let mut random = Random::numbered(2, [0, case]);
-        let (run, played) = Run::random(&judge, &mut random, 20, 100);
-        played.is_err().then_some(run)
-    });
-    let run = shrink::run(&judge, failing.expect("the fault is found"));
-    assert!(run.play(&judge).is_err());
+    let run = smallest_run(Program { settle, ..SECOND });
     assert_eq!(run.plan, [2, 0], "{run}");
-    assert!(run.counters.len() <= 3 && run.steps.len() <= 4, "{run}");
+    assert!(run.starts.len() <= 3 && run.steps.len() <= 4, "{run}");
+}
+
+/// What a widened table had heard is forgotten.
+#[test]
+fn widened_table_has_forgotten() {
+    let widen = |table: &[u32], wide: &mut [u32]| widen_and(table, wide, forget_a_floor);
+    let run = smallest_run(Program { widen, ..SECOND });
+    assert_eq!(run.plan, [2, 0], "{run}");
+    assert!(
+        matches!(run.steps.last(), Some(Step::Widen { .. })),
+        "{run}"
+    );
+    assert!(run.starts.len() <= 2 && run.steps.len() <= 3, "{run}");
+}
+
+/// A pass between two widths does nothing and says that it has done it all.
+#[test]
+fn pass_between_widths_says_success() {
+    let pass = |source: &[u32], target: &mut [u32], row: u32, answers: &mut [u32]| {
+        let answer = (SECOND.pass)(source, target, row, answers);
+        if answer.number != 19 {
+            return answer;
+        }
+        for (row, answer) in (row as usize..).zip(answers) {
+            *answer = if is_folder(target, row) { 5 } else { 0 };
+        }
+        done(1)
+    };
+    let run = smallest_run(Program { pass, ..SECOND });
+    assert!(run.starts.len() <= 2 && run.steps.len() <= 2, "{run}");
+    assert_eq!(run.plan.len(), 1, "{run}");
 }

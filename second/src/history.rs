@@ -5,6 +5,8 @@
 //! that device it is; so the history counts each device's own events, which is a way of naming them and says
 //! nothing about what anybody knows. The kind of a sheet is kept with its last event, since the rules read it.
 //!
+//! Widening a table is no event and moves no set, so nothing here knows of widths.
+//!
 //! Nothing here is shared with the code that works on tables, the six rules included.
 
 use std::collections::{BTreeMap, BTreeSet};
@@ -109,7 +111,7 @@ impl Ruling {
 #[derive(Clone, Debug, PartialEq, Eq)]
 struct Device {
     events: u32,
-    sheets: BTreeMap<u32, Sheet>,
+    sheets: BTreeMap<usize, Sheet>,
 }
 
 /// The history of all devices, numbered from 0.
@@ -133,10 +135,10 @@ impl Sheet {
 
 impl Device {
     /// The name of an event that happens now.
-    fn next_event(&mut self, device: u32) -> Event {
+    fn next_event(&mut self, device: usize) -> Event {
         self.events += 1;
         Event {
-            device,
+            device: device as u32,
             count: self.events,
         }
     }
@@ -144,36 +146,36 @@ impl Device {
 
 impl History {
     /// The history before any event, of this many devices with sheets in these rows.
-    pub fn new(devices: u32, sheets: &[u32]) -> History {
+    pub fn new(devices: usize, sheets: &[usize]) -> History {
         let device = Device {
             events: 0,
             sheets: sheets.iter().map(|&row| (row, Sheet::unused())).collect(),
         };
         History {
-            devices: vec![device; devices as usize],
+            devices: vec![device; devices],
         }
     }
 
     /// A sheet on a device. Here as in all that follows, it is a mistake to name a device or a sheet that is not
     /// there, and a panic.
-    pub fn sheet(&self, device: u32, row: u32) -> &Sheet {
-        &self.devices[device as usize].sheets[&row]
+    pub fn sheet(&self, device: usize, row: usize) -> &Sheet {
+        &self.devices[device].sheets[&row]
     }
 
     /// The sheets of a device, by row.
-    pub fn sheets(&self, device: u32) -> impl Iterator<Item = (u32, &Sheet)> {
-        let sheets = &self.devices[device as usize].sheets;
+    pub fn sheets(&self, device: usize) -> impl Iterator<Item = (usize, &Sheet)> {
+        let sheets = &self.devices[device].sheets;
         sheets.iter().map(|(&row, sheet)| (row, sheet))
     }
 
     /// An event on a device; gives its count. `None`, and nothing has happened, where it does not fit the sheet.
-    pub fn event(&mut self, device: u32, row: u32, act: Act) -> Option<u32> {
+    pub fn event(&mut self, device: usize, row: usize, act: Act) -> Option<u32> {
         let birth = match (act, self.sheet(device, row).state) {
             (Act::Create, State::Never | State::Removed { .. }) => None,
             (Act::Change | Act::Remove, State::Live { birth, .. }) => Some(birth),
             _ => return None,
         };
-        let last = self.devices[device as usize].next_event(device);
+        let last = self.devices[device].next_event(device);
         let state = match act {
             Act::Remove => State::Removed { last },
             Act::Create | Act::Change => State::Live {
@@ -188,9 +190,14 @@ impl History {
     }
 
     /// A pass over every sheet in these rows, whatever folders lie among them. Gives each sheet's ruling by row.
-    pub fn pass(&mut self, source: u32, target: u32, rows: Range<u32>) -> BTreeMap<u32, Ruling> {
-        let sheets = self.devices[source as usize].sheets.range(rows);
-        let rows: Vec<u32> = sheets.map(|(&row, _)| row).collect();
+    pub fn pass(
+        &mut self,
+        source: usize,
+        target: usize,
+        rows: Range<usize>,
+    ) -> BTreeMap<usize, Ruling> {
+        let sheets = self.devices[source].sheets.range(rows);
+        let rows: Vec<usize> = sheets.map(|(&row, _)| row).collect();
         rows.into_iter()
             .map(|row| (row, self.pass_sheet(source, target, row)))
             .collect()
@@ -198,7 +205,13 @@ impl History {
 
     /// Settles a conflict on the target; gives the count of the new event, 0 if the choice makes none. `None`, and
     /// nothing has happened, where there is no conflict.
-    pub fn settle(&mut self, source: u32, target: u32, row: u32, choice: Choice) -> Option<u32> {
+    pub fn settle(
+        &mut self,
+        source: usize,
+        target: usize,
+        row: usize,
+        choice: Choice,
+    ) -> Option<u32> {
         if self.ruling(source, target, row) != Ruling::Conflict {
             return None;
         }
@@ -216,7 +229,7 @@ impl History {
     }
 
     /// The first of the six rules that fits, with "in the set" for "covered".
-    pub fn ruling(&self, source: u32, target: u32, row: u32) -> Ruling {
+    pub fn ruling(&self, source: usize, target: usize, row: usize) -> Ruling {
         let (a, b) = (self.sheet(source, row), self.sheet(target, row));
         match (a.state, b.state) {
             // 1
@@ -247,13 +260,13 @@ impl History {
         }
     }
 
-    fn sheet_mut(&mut self, device: u32, row: u32) -> &mut Sheet {
-        let sheets = &mut self.devices[device as usize].sheets;
+    fn sheet_mut(&mut self, device: usize, row: usize) -> &mut Sheet {
+        let sheets = &mut self.devices[device].sheets;
         sheets.get_mut(&row).expect("the device has the sheet")
     }
 
     /// Does to one sheet of the target what the rules say.
-    fn pass_sheet(&mut self, source: u32, target: u32, row: u32) -> Ruling {
+    fn pass_sheet(&mut self, source: usize, target: usize, row: usize) -> Ruling {
         let ruling = self.ruling(source, target, row);
         if matches!(ruling, Ruling::KeepRemoval | Ruling::Copy | Ruling::Remove) {
             self.sheet_mut(target, row).state = self.sheet(source, row).state;
@@ -265,8 +278,8 @@ impl History {
     }
 
     /// A new event on the target makes the sheet live. Its birth stays if it was live, and else is the source's.
-    fn renew(&mut self, target: u32, row: u32, theirs: State) -> u32 {
-        let last = self.devices[target as usize].next_event(target);
+    fn renew(&mut self, target: usize, row: usize, theirs: State) -> u32 {
+        let last = self.devices[target].next_event(target);
         let sheet = self.sheet_mut(target, row);
         let birth = match (sheet.state, theirs) {
             (State::Live { birth, .. }, _) | (_, State::Live { birth, .. }) => birth,
@@ -278,7 +291,7 @@ impl History {
     }
 
     /// The target takes into account whatever the source has.
-    fn join(&mut self, source: u32, target: u32, row: u32) {
+    fn join(&mut self, source: usize, target: usize, row: usize) {
         let taken = self.sheet(source, row).taken.clone();
         self.sheet_mut(target, row).taken.extend(taken);
     }

@@ -5,13 +5,17 @@
 //! judged whole, a row's path is walked from the root each time it is needed, and summaries are worked out
 //! from nothing. Words are written back only when a call has succeeded, so a refusal changes none.
 //!
-//! Every call works on word slices and gives an [`Answer`]: the refusal's number, or 0, and a count.
+//! A table is narrow or wide, with eight or sixteen columns, as its head says ([`layout`]). In all that is done to a
+//! table its vectors have sixteen columns, and those that a narrow table doesn't have are zero.
+//!
+//! Every call works on word slices and gives an [`Answer`]: the refusal's number, or 0, and a count. [`trial`] serves
+//! those who try the calls out.
 //!
 //! ```
 //! let plan = [5, 3, 0, 0, 0];
 //! let (mut desk, mut tablet) = ([0; 240], [0; 240]);
-//! second::new(0, &plan, &mut desk);
-//! second::new(1, &plan, &mut tablet);
+//! second::new(8, 0, &plan, &mut desk);
+//! second::new(8, 1, &plan, &mut tablet);
 //! assert_eq!(second::event(&mut desk, 2, 1, 700).count, 1);
 //!
 //! let mut answers = [0; 5];
@@ -21,6 +25,8 @@
 //! ```
 
 pub mod history;
+pub mod layout;
+pub mod trial;
 
 mod order;
 mod pass;
@@ -38,6 +44,9 @@ use refusal::Refusal;
 use rules::Ruling;
 use table::Table;
 use work::{Choice, Event};
+
+pub use layout::Width;
+pub use vector::{Stamp, Vector};
 
 /// What a call says: the number of the refusal, or 0 for success; and a count, 0 on a refusal.
 #[derive(Clone, Copy, Debug, PartialEq, Eq, Hash)]
@@ -79,9 +88,15 @@ pub fn check(table: &[u32]) -> Answer {
     Answer::of(try_check(table))
 }
 
-/// Makes a new table from a plan, a number a row: 0 for a sheet, k for a folder of size k. Counts its rows.
-pub fn new(device: u32, plan: &[u32], table: &mut [u32]) -> Answer {
-    Answer::of(try_new(device, plan, table))
+/// Makes a new table with 8 or 16 columns from a plan, a number a row: 0 for a sheet, k for a folder of size k.
+/// Counts its rows.
+pub fn new(columns: u32, device: u32, plan: &[u32], table: &mut [u32]) -> Answer {
+    Answer::of(try_new(columns, device, plan, table))
+}
+
+/// Makes a table with 16 columns of one with 8: the same events, and zeros in the new columns. Counts its rows.
+pub fn widen(table: &[u32], wide: &mut [u32]) -> Answer {
+    Answer::of(try_widen(table, wide))
 }
 
 /// Creates (1), changes (2) or removes (3) a sheet; counts the new stamp.
@@ -113,12 +128,13 @@ pub fn beneath(table: &[u32], row: u32) -> (Answer, Range<usize>) {
 
 /// Shows the row that stands, and says in whose table it lies. Counts its words, 0 on a conflict.
 pub fn standing(source: &[u32], target: &[u32], row: u32) -> (Answer, Side) {
-    let side = try_standing(source, target, row);
-    let count = side.map(|side| match side {
+    let stands = try_standing(source, target, row);
+    let count = stands.map(|(side, width)| match side {
         Side::None => 0,
-        Side::Source | Side::Target => table::WIDTH as u32,
+        Side::Source | Side::Target => width.row() as u32,
     });
-    (Answer::of(count), side.unwrap_or(Side::None))
+    let side = stands.map_or(Side::None, |(side, _)| side);
+    (Answer::of(count), side)
 }
 
 fn try_check(words: &[u32]) -> Result<u32, Refusal> {
@@ -126,13 +142,23 @@ fn try_check(words: &[u32]) -> Result<u32, Refusal> {
     Ok(table.rows.len() as u32)
 }
 
-fn try_new(device: u32, plan: &[u32], words: &mut [u32]) -> Result<u32, Refusal> {
-    let table = work::new(device, plan)?;
-    if words.len() != Table::length(table.rows.len()) {
+fn try_new(columns: u32, device: u32, plan: &[u32], words: &mut [u32]) -> Result<u32, Refusal> {
+    write(&work::new(columns, device, plan)?, words)
+}
+
+fn try_widen(words: &[u32], wide: &mut [u32]) -> Result<u32, Refusal> {
+    let table = sound::read(words).map_err(Refusal::Source)?;
+    write(&work::widen(table)?, wide)
+}
+
+/// Writes a table into words that have its length; counts its rows.
+fn write(table: &Table, words: &mut [u32]) -> Result<u32, Refusal> {
+    let rows = table.rows.len();
+    if words.len() != table.width.length(rows) {
         return Err(Refusal::WrongLength);
     }
     words.copy_from_slice(&table.words());
-    Ok(table.rows.len() as u32)
+    Ok(rows as u32)
 }
 
 fn try_event(words: &mut [u32], row: u32, event: u32, mark: u32) -> Result<u32, Refusal> {
@@ -182,18 +208,20 @@ fn try_beneath(words: &[u32], row: u32) -> Result<Range<usize>, Refusal> {
     if !table.rows[row].is_folder() {
         return Err(Refusal::NoSuchRow);
     }
-    Ok(Table::words_of(table.beneath(row)))
+    Ok(table.words_of(table.beneath(row)))
 }
 
-fn try_standing(source: &[u32], target: &[u32], row: u32) -> Result<Side, Refusal> {
+/// In whose table the row that stands lies, and the width of both.
+fn try_standing(source: &[u32], target: &[u32], row: u32) -> Result<(Side, Width), Refusal> {
     let (source, target) = sound::read_pair(source, target)?;
     let row = sound::find(&target, row)?;
     if target.rows[row].is_folder() {
         return Err(Refusal::Unfit);
     }
-    Ok(match rules::ruling(&source, &target, row) {
+    let side = match rules::ruling(&source, &target, row) {
         Ruling::Copy | Ruling::Remove => Side::Source,
         Ruling::Keep | Ruling::KeepRemoval => Side::Target,
         Ruling::Conflict => Side::None,
-    })
+    };
+    Ok((side, target.width))
 }

@@ -1,10 +1,6 @@
 //! The order of rows: depth first, sizes leading from sibling to sibling, at most 16 levels.
 
-/// The most rows a table has.
-pub const MOST_ROWS: usize = 256;
-
-/// The most levels there are, root and sheets included.
-const MOST_LEVELS: usize = 16;
+use crate::layout::MOST_LEVELS;
 
 /// What the order of rows needs to know of one row.
 #[derive(Clone, Copy, Debug)]

@@ -27,8 +27,10 @@ pub enum Refusal {
     CounterFull,
     /// The event or choice is not 1, 2 or 3.
     NoSuchChoice,
-    /// The new table's device is above 7.
+    /// The new table has no column for its device.
     NoSuchDevice,
+    /// Two tables of different width, a table to widen that is wide already, or columns that are neither 8 nor 16.
+    WrongWidth,
     /// The plan would give rows that break the order.
     BadPlan,
 }
@@ -62,6 +64,7 @@ impl Refusal {
             Refusal::CounterFull => 15,
             Refusal::NoSuchChoice => 16,
             Refusal::NoSuchDevice => 17,
+            Refusal::WrongWidth => 19,
         }
     }
 }

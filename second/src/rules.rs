@@ -1,6 +1,7 @@
 //! What is done at one sheet.
 
-use crate::table::{Kind, Table};
+use crate::layout::Kind;
+use crate::table::Table;
 use crate::times;
 
 /// What the six rules say of one sheet.

@@ -1,17 +1,16 @@
 //! Which words are sound tables, and which sound tables go together.
 
-use crate::order::{self, Place, MOST_ROWS};
+use crate::layout::{head, Kind, Width, MOST_ROWS};
+use crate::order::{self, Place};
 use crate::refusal::{Fault, Refusal};
-use crate::table::{Kind, Row, Table, WIDTH};
+use crate::table::{Row, Table};
 use crate::times;
-use crate::vector::{Stamp, DEVICES};
+use crate::vector::Stamp;
 
 /// The table in these words, if it is sound. The whole is judged by its head, then by its order, then by the rest.
 pub fn read(words: &[u32]) -> Result<Table, Fault> {
-    if !head_is_right(words) {
-        return Err(Fault::Head);
-    }
-    let table = Table::read(words).ok_or(Fault::Order)?;
+    let width = width_of(words).ok_or(Fault::Head)?;
+    let table = Table::read(words, width).ok_or(Fault::Order)?;
     if !order::is_kept(&places(&table)) {
         return Err(Fault::Order);
     }
@@ -25,6 +24,9 @@ pub fn read(words: &[u32]) -> Result<Table, Fault> {
 pub fn read_pair(source: &[u32], target: &[u32]) -> Result<(Table, Table), Refusal> {
     let source = read(source).map_err(Refusal::Source)?;
     let target = read(target).map_err(Refusal::Target)?;
+    if source.width != target.width {
+        return Err(Refusal::WrongWidth);
+    }
     if !same_places(&source, &target) {
         return Err(Refusal::PlacesDiffer);
     }
@@ -50,16 +52,17 @@ pub fn find(table: &Table, row: u32) -> Result<usize, Refusal> {
     }
 }
 
-fn head_is_right(words: &[u32]) -> bool {
-    if words.len() < WIDTH {
-        return false;
-    }
-    let head = &words[..WIDTH];
-    let rows = head[2] as usize;
-    (head[0] as usize) < DEVICES
+/// The width of the table in these words, if the length and the head are right.
+fn width_of(words: &[u32]) -> Option<Width> {
+    let width = Width::of_head(*words.get(head::WIDTH)?)?;
+    let rows = words[head::ROWS] as usize;
+    let is_right = width.has(words[head::DEVICE])
         && (1..=MOST_ROWS).contains(&rows)
-        && words.len() == Table::length(rows)
-        && head[3..].iter().all(|&word| word == 0)
+        && words.len() == width.length(rows)
+        && words[head::WIDTH + 1..width.row()]
+            .iter()
+            .all(|&word| word == 0);
+    is_right.then_some(width)
 }
 
 fn places(table: &Table) -> Vec<Place> {
@@ -75,18 +78,18 @@ fn row_is_right(table: &Table, row: usize) -> bool {
     let words = &table.rows[row];
     words.blank == 0
         && words.floor.count(table.device) == 0
-        && event_words_are_right(words)
+        && event_words_are_right(words, table.width)
         && events_are_covered(table, row)
         && words.summary == times::summary(table, row)
 }
 
 /// Whether words 2 to 6 are those of the row's kind.
-fn event_words_are_right(row: &Row) -> bool {
+fn event_words_are_right(row: &Row, width: Width) -> bool {
     let no_birth = row.birth == Stamp::EMPTY && row.mark == 0;
     match row.kind {
         Kind::Never | Kind::Folder => row.stamp == Stamp::EMPTY && no_birth,
-        Kind::Removed => row.stamp.is_proper() && no_birth,
-        Kind::Live => row.stamp.is_proper() && row.birth.is_proper(),
+        Kind::Removed => row.stamp.is_proper(width) && no_birth,
+        Kind::Live => row.stamp.is_proper(width) && row.birth.is_proper(width),
     }
 }
 

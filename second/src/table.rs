@@ -1,57 +1,9 @@
-//! The layout: a table as words, and as a head with rows.
+//! A table as words, and as a head with rows.
 
 use std::ops::Range;
 
-use crate::vector::{Stamp, Vector, DEVICES};
-
-/// The words of a row, and of the head before the rows.
-pub const WIDTH: usize = 40;
-
-/// The places of the words in a row.
-mod word {
-    pub const KIND: usize = 0;
-    pub const SIZE: usize = 1;
-    pub const STAMP: usize = 2;
-    pub const BIRTH: usize = 4;
-    pub const MARK: usize = 6;
-    pub const BLANK: usize = 7;
-    pub const FLOOR: usize = 8;
-    pub const NEWEST: usize = 16;
-    pub const LEAST: usize = 24;
-    pub const MOST: usize = 32;
-}
-
-/// What a row is. Everything but a folder is a sheet.
-#[derive(Clone, Copy, Debug, PartialEq, Eq)]
-pub enum Kind {
-    Never,
-    Live,
-    Removed,
-    Folder,
-}
-
-impl Kind {
-    /// The kind a number stands for, if it stands for one.
-    pub fn read(number: u32) -> Option<Kind> {
-        match number {
-            0 => Some(Kind::Never),
-            1 => Some(Kind::Live),
-            2 => Some(Kind::Removed),
-            3 => Some(Kind::Folder),
-            _ => None,
-        }
-    }
-
-    /// The number of this kind.
-    pub fn number(self) -> u32 {
-        match self {
-            Kind::Never => 0,
-            Kind::Live => 1,
-            Kind::Removed => 2,
-            Kind::Folder => 3,
-        }
-    }
-}
+use crate::layout::{head, word, Kind, Time, Width};
+use crate::vector::{Stamp, Vector};
 
 /// What a folder says of the rows beneath it. In a sheet it is all zeros.
 #[derive(Clone, Copy, Debug, Default, PartialEq, Eq)]
@@ -103,98 +55,87 @@ impl Row {
         self.mark = other.mark;
     }
 
-    /// The row in its forty words, if its kind is one of the four.
-    fn read(words: &[u32]) -> Option<Row> {
+    /// The row in these words, if its kind is one of the four.
+    fn read(words: &[u32], width: Width) -> Option<Row> {
+        let stamp = |place: usize| Stamp {
+            device: words[place],
+            count: words[place + 1],
+        };
+        let vector = |time: Time| Vector::of(&words[width.counts(time)]);
         Some(Row {
             kind: Kind::read(words[word::KIND])?,
             size: words[word::SIZE] as usize,
-            stamp: read_stamp(words, word::STAMP),
-            birth: read_stamp(words, word::BIRTH),
+            stamp: stamp(word::STAMP),
+            birth: stamp(word::BIRTH),
             mark: words[word::MARK],
             blank: words[word::BLANK],
-            floor: read_vector(words, word::FLOOR),
+            floor: vector(Time::Floor),
             summary: Summary {
-                newest: read_vector(words, word::NEWEST),
-                least: read_vector(words, word::LEAST),
-                most: read_vector(words, word::MOST),
+                newest: vector(Time::Newest),
+                least: vector(Time::Least),
+                most: vector(Time::Most),
             },
         })
     }
 
-    /// The forty words of the row.
-    fn words(&self) -> [u32; WIDTH] {
-        let mut words = [0; WIDTH];
+    /// The words of the row.
+    fn words(&self, width: Width) -> Vec<u32> {
+        let mut words = vec![0; width.row()];
         words[word::KIND] = self.kind.number();
         words[word::SIZE] = self.size as u32;
-        write_stamp(&mut words, word::STAMP, self.stamp);
-        write_stamp(&mut words, word::BIRTH, self.birth);
+        for (place, stamp) in [(word::STAMP, self.stamp), (word::BIRTH, self.birth)] {
+            words[place] = stamp.device;
+            words[place + 1] = stamp.count;
+        }
         words[word::MARK] = self.mark;
         words[word::BLANK] = self.blank;
-        write_vector(&mut words, word::FLOOR, self.floor);
-        write_vector(&mut words, word::NEWEST, self.summary.newest);
-        write_vector(&mut words, word::LEAST, self.summary.least);
-        write_vector(&mut words, word::MOST, self.summary.most);
+        for (time, vector) in [
+            (Time::Floor, self.floor),
+            (Time::Newest, self.summary.newest),
+            (Time::Least, self.summary.least),
+            (Time::Most, self.summary.most),
+        ] {
+            words[width.counts(time)].copy_from_slice(&vector.0[..width.columns()]);
+        }
         words
     }
 }
 
-fn read_stamp(words: &[u32], place: usize) -> Stamp {
-    Stamp {
-        device: words[place],
-        count: words[place + 1],
-    }
-}
-
-fn write_stamp(words: &mut [u32], place: usize, stamp: Stamp) {
-    words[place] = stamp.device;
-    words[place + 1] = stamp.count;
-}
-
-fn read_vector(words: &[u32], place: usize) -> Vector {
-    Vector(std::array::from_fn(|column| words[place + column]))
-}
-
-fn write_vector(words: &mut [u32], place: usize, vector: Vector) {
-    words[place..place + DEVICES].copy_from_slice(&vector.0);
-}
-
-/// A table of times: a device, its counter, and its rows.
+/// A table of times: its width, a device, its counter, and its rows.
 #[derive(Clone, Debug, PartialEq, Eq)]
 pub struct Table {
+    pub width: Width,
     pub device: u32,
     pub counter: u32,
     pub rows: Vec<Row>,
 }
 
 impl Table {
-    /// How many words a table of this many rows has.
-    pub fn length(rows: usize) -> usize {
-        WIDTH * (rows + 1)
-    }
-
-    /// The table in these words, if each row's kind is one of the four.
+    /// The table of this width in these words, if each row's kind is one of the four.
     ///
     /// The words are a whole head and whole rows: the caller has judged the length.
-    pub fn read(words: &[u32]) -> Option<Table> {
-        let (head, rows) = words.split_at(WIDTH);
+    pub fn read(words: &[u32], width: Width) -> Option<Table> {
+        let (head, rows) = words.split_at(width.row());
         Some(Table {
-            device: head[0],
-            counter: head[1],
+            width,
+            device: head[head::DEVICE],
+            counter: head[head::COUNTER],
             rows: rows
-                .chunks_exact(WIDTH)
-                .map(Row::read)
+                .chunks_exact(width.row())
+                .map(|words| Row::read(words, width))
                 .collect::<Option<_>>()?,
         })
     }
 
     /// All words of the table.
     pub fn words(&self) -> Vec<u32> {
-        let mut words = vec![0; WIDTH];
-        words[0] = self.device;
-        words[1] = self.counter;
-        words[2] = self.rows.len() as u32;
+        let mut words = vec![0; self.width.row()];
+        words[head::DEVICE] = self.device;
+        words[head::COUNTER] = self.counter;
+        words[head::ROWS] = self.rows.len() as u32;
+        words[head::WIDTH] = self.width.told();
         for row in &self.rows {
-            words.extend(row.words());
+            words.extend(row.words(self.width));
         }
         words
     }
@@ -210,8 +151,8 @@ impl Table {
     }
 
     /// The words in which some rows lie.
-    pub fn words_of(rows: Range<usize>) -> Range<usize> {
-        Table::length(rows.start)..Table::length(rows.end)
+    pub fn words_of(&self, rows: Range<usize>) -> Range<usize> {
+        self.width.length(rows.start)..self.width.length(rows.end)
     }
 
     /// The children of a row, in order: the first is the next row, and each one's size leads to its sibling.

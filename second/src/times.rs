@@ -1,6 +1,7 @@
 //! Known times and summaries, always worked out from the floors and stamps alone.
 
-use crate::table::{Kind, Summary, Table};
+use crate::layout::Kind;
+use crate::table::{Summary, Table};
 use crate::vector::Vector;
 
 /// The known time of a row: the greatest of the floors on its path, with the counter in the own column.

@@ -2,13 +2,14 @@
 
 use std::array;
 
-/// How many devices there can be, and so how many columns a vector has.
-pub const DEVICES: usize = 8;
+use crate::layout::Width;
 
 /// The name of an event: the device it happened on and that device's count of it.
 #[derive(Clone, Copy, Debug, Default, PartialEq, Eq)]
 pub struct Stamp {
+    /// The device.
     pub device: u32,
+    /// Its count.
     pub count: u32,
 }
 
@@ -19,19 +20,29 @@ impl Stamp {
         count: 0,
     };
 
-    /// Whether this can name an event: the device is 0 to 7 and the count at least 1.
-    pub fn is_proper(self) -> bool {
-        (self.device as usize) < DEVICES && self.count >= 1
+    /// Whether this can name an event in a table of this width: the device has a column and the count is at least 1.
+    pub fn is_proper(self, width: Width) -> bool {
+        width.has(self.device) && self.count >= 1
     }
 }
 
-/// One count for each device.
+/// One count for each device that there can be. Whatever the width, columns that a table doesn't have are zero.
 #[derive(Clone, Copy, Debug, Default, PartialEq, Eq)]
-pub struct Vector(pub [u32; DEVICES]);
+pub struct Vector(pub [u32; Vector::COLUMNS]);
 
 impl Vector {
+    /// As many columns as any table has.
+    pub const COLUMNS: usize = Width::Wide.columns();
+
     /// The vector of no counts at all.
-    pub const ZERO: Vector = Vector([0; DEVICES]);
+    pub const ZERO: Vector = Vector([0; Vector::COLUMNS]);
+
+    /// The vector with these counts first, and zeros.
+    pub fn of(first: &[u32]) -> Vector {
+        let mut vector = Vector::ZERO;
+        vector.0[..first.len()].copy_from_slice(first);
+        vector
+    }
 
     /// The count in the column of a device; 0 for a device that has no column.
     pub fn count(&self, device: u32) -> u32 {

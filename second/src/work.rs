@@ -1,11 +1,12 @@
 //! Local work: new tables, events, and settling a conflict.
 
-use crate::order::{self, Place, MOST_ROWS};
+use crate::layout::{Kind, Width, MOST_ROWS};
+use crate::order::{self, Place};
 use crate::refusal::Refusal;
 use crate::rules::{self, Ruling};
-use crate::table::{Kind, Row, Table};
+use crate::table::{Row, Table};
 use crate::times;
-use crate::vector::{Stamp, DEVICES};
+use crate::vector::Stamp;
 
 /// What a user does to a sheet.
 #[derive(Clone, Copy, Debug, PartialEq, Eq)]
@@ -55,9 +56,10 @@ impl Choice {
     }
 }
 
-/// A new table of a device, from a plan.
-pub fn new(device: u32, plan: &[u32]) -> Result<Table, Refusal> {
-    if device as usize >= DEVICES {
+/// A new table of a device with so many columns, from a plan.
+pub fn new(columns: u32, device: u32, plan: &[u32]) -> Result<Table, Refusal> {
+    let width = Width::of_columns(columns).ok_or(Refusal::WrongWidth)?;
+    if !width.has(device) {
         return Err(Refusal::NoSuchDevice);
     }
     let places: Vec<Place> = plan.iter().map(|&number| Place::of_plan(number)).collect();
@@ -73,10 +75,22 @@ pub fn new(device: u32, plan: &[u32]) -> Result<Table, Refusal> {
         Row::fresh(kind, place.size)
     };
     Ok(Table {
+        width,
         device,
         counter: 0,
         rows: places.into_iter().map(fresh).collect(),
     })
+}
+
+/// The same table with sixteen columns, zeros in the new ones.
+pub fn widen(table: Table) -> Result<Table, Refusal> {
+    match table.width {
+        Width::Narrow => Ok(Table {
+            width: Width::Wide,
+            ..table
+        }),
+        Width::Wide => Err(Refusal::WrongWidth),
+    }
 }
 
 /// The next stamp of the table's device, its counter having gone up by one.

@@ -1,50 +1,44 @@
-//! Every call on damaged tables and on garbage: it never panics, a refusal changes nothing, and whatever is
-//! accepted leaves a sound table.
+//! Every call on damaged tables and on garbage of both widths: it never panics, a refusal changes nothing, and whatever
+//! is accepted leaves a sound table.
 
 mod common;
 
 use common::*;
-use second::Answer;
 
 /// Everything random in this file comes from this seed.
 const SEED: u64 = 20_030_401;
-
-/// Words that have tempted programs to overflow.
-const BAIT: [u32; 14] = [
-    0,
-    1,
-    2,
-    3,
-    4,
-    8,
-    255,
-    256,
-    257,
-    107_374_182,
-    0x7fff_ffff,
-    0x8000_0000,
-    u32::MAX - 1,
-    u32::MAX,
-];
 
 /// What a call is lent.
 #[derive(Clone, Debug, PartialEq)]
 struct Lent {
     source: Vec<u32>,
     target: Vec<u32>,
+    /// What a widening writes.
+    wide: Vec<u32>,
     plan: Vec<u32>,
     answers: Vec<u32>,
+    columns: u32,
     numbers: [u32; 3],
 }
 
 /// How often each number was given.
-type Tally = [u32; 18];
+type Tally = [u32; 20];
 
 /// Tries every call with what is lent.
 fn try_all(lent: &Lent, tally: &mut Tally) {
-    let calls: [fn(&mut Lent) -> Answer; 7] = [
+    let calls: [fn(&mut Lent) -> Answer; 8] = [
         |lent| second::check(&lent.target),
-        |lent| second::new(lent.numbers[0], &lent.plan, &mut lent.target),
+        |lent| {
+            let device = lent.numbers[0];
+            second::new(lent.columns, device, &lent.plan, &mut lent.target)
+        },
+        |lent| {
+            let answer = second::widen(&lent.target, &mut lent.wide);
+            if answer.number == 0 {
+                assert_sound(&lent.wide);
+            }
+            answer
+        },
         |lent| {
             let [row, event, mark] = lent.numbers;
             second::event(&mut lent.target, row, event, mark)
@@ -77,25 +71,16 @@ fn try_all(lent: &Lent, tally: &mut Tally) {
     }
 }
 
-/// Some word: bait, small, or anything.
-fn any_word(random: &mut Random) -> u32 {
-    match random.within(0..4) {
-        0 => random.word(),
-        1 => random.within(0..12) as u32,
-        _ => random.one_of(&BAIT),
-    }
-}
-
 fn any_words(random: &mut Random, length: usize) -> Vec<u32> {
-    (0..length).map(|_| any_word(random)).collect()
+    (0..length).map(|_| random.odd_word()).collect()
 }
 
 /// Devices 0 and 1 after some events and passes.
-fn worked(random: &mut Random, plan: &[u32]) -> Desk {
-    let mut desk = Desk::fresh(2, plan);
+fn worked(random: &mut Random, width: Width, plan: &[u32]) -> Desk {
+    let mut desk = Desk::fresh(width, 0..2, plan);
     for _ in 0..random.within(0..12) {
         let device = random.within(0..2);
-        let row = random.within(0..plan.len()) as u32;
+        let row = random.within(0..plan.len());
         match kind(&desk.tables[device], row) {
             3 => _ = desk.pass(1 - device, device, row),
             1 => _ = desk.event(device, row, random.one_of(&[CHANGE, REMOVAL]), 5),
@@ -105,96 +90,131 @@ fn worked(random: &mut Random, plan: &[u32]) -> Desk {
     desk
 }
 
-/// Changes a few words of a table, or its length, or nothing.
+/// Changes a floor, the counter or a few words of a table, or its length, or nothing.
 fn damage(random: &mut Random, table: &mut Vec<u32>) {
+    let width = width(table);
+    match random.within(0..60) {
+        0 | 1 => {
+            let column = random.within(0..width.columns()) as u32;
+            raise(table, 0, column, random.odd_word());
+        }
+        2 | 3 => table[head::COUNTER] = u32::MAX,
+        4 => table.truncate(random.within(1..table.len())),
+        _ => (),
+    }
     for _ in 0..random.within(0..3) {
+        let row = width.row() * random.within(0..table.len().div_ceil(width.row()));
         let word = match random.within(0..3) {
-            0 => random.within(0..3),
-            1 => WIDTH * random.within(0..table.len() / WIDTH) + random.within(0..8),
+            0 => random.within(0..4),
+            1 => row + random.within(0..word::VECTORS),
             _ => random.within(0..table.len()),
         };
-        table[word] = if random.once_in(2) {
-            any_word(random)
-        } else {
-            table[word].wrapping_add(1)
-        };
-    }
-    match random.within(0..60) {
-        0 | 1 => raise_root(table, random.within(0..8), any_word(random)),
-        2 | 3 => table[1] = u32::MAX,
-        4 => table.truncate(random.within(0..table.len())),
-        _ => (),
+        if let Some(word) = table.get_mut(word) {
+            *word = match random.once_in(2) {
+                true => random.odd_word(),
+                false => word.wrapping_add(1),
+            };
+        }
     }
 }
 
 /// A sound pair of tables with fitting numbers, all of it then damaged a little.
 fn damaged(random: &mut Random) -> Lent {
     let rows = random.within(1..12);
-    let plan = random_plan(random, rows);
-    let mut tables = worked(random, &plan).tables;
+    let plan = plans::right(random, rows);
+    let width = random.one_of(&Width::BOTH);
+    let mut tables = worked(random, width, &plan).tables;
     let row = random.within(0..rows + 1);
     let answers = plan.get(row).map_or(1, |&size| size.max(1));
     let mut lent = Lent {
         target: tables.remove(random.within(0..2)),
         source: tables.remove(0),
+        wide: vec![9; Width::Wide.length(rows)],
         answers: vec![9; answers as usize],
+        columns: width.columns() as u32,
         numbers: [row as u32, random.within(0..5) as u32, random.word()],
         plan,
     };
+    if width == Width::Narrow && random.once_in(10) {
+        lent.target = widened(&lent.target);
+    }
     damage(random, &mut lent.source);
     damage(random, &mut lent.target);
     if random.once_in(10) {
         let row = random.within(0..rows);
-        lent.plan[row] = any_word(random);
+        lent.plan[row] = random.odd_word();
     }
     if random.once_in(20) {
-        lent.numbers = std::array::from_fn(|_| any_word(random));
+        lent.numbers = std::array::from_fn(|_| random.odd_word());
+        lent.columns = random.odd_word();
     }
     if random.once_in(20) {
         lent.answers.push(9);
+        lent.wide.push(9);
     }
     lent
 }
 
 /// Words without any meaning, the head sometimes excepted.
 fn garbage(random: &mut Random) -> Lent {
-    let length = random.one_of(&[0, 1, 39, 40, 79, 80, 81, 120, 400]);
+    let width = random.one_of(&Width::BOTH);
+    let row = width.row();
+    let length = random.one_of(&[
+        0,
+        1,
+        row - 1,
+        row,
+        2 * row - 1,
+        2 * row,
+        2 * row + 1,
+        3 * row,
+        10 * row,
+    ]);
+    let rows = length / row;
     let mut lent = Lent {
         source: any_words(random, length),
         target: any_words(random, length),
-        plan: any_words(random, length / 40),
-        answers: any_words(random, length / 40),
-        numbers: std::array::from_fn(|_| any_word(random)),
+        wide: any_words(random, Width::Wide.length(rows.saturating_sub(1))),
+        plan: any_words(random, rows),
+        answers: any_words(random, rows),
+        columns: match random.within(0..3) {
+            0 => random.odd_word(),
+            _ => width.columns() as u32,
+        },
+        numbers: std::array::from_fn(|_| random.odd_word()),
     };
-    if length >= 80 && random.once_in(2) {
-        for (device, table) in [&mut lent.source, &mut lent.target].into_iter().enumerate() {
-            table[..40].fill(0);
-            table[0] = device as u32;
-            table[2] = (length / 40 - 1) as u32;
+    if length >= 2 * row && random.once_in(2) {
+        for (device, table) in (0..).zip([&mut lent.source, &mut lent.target]) {
+            let head = fresh(width, device, &[]);
+            table[..row].copy_from_slice(&head);
+            table[head::ROWS] = rows as u32 - 1;
         }
     }
     lent
 }
 
-#[test]
-fn damaged_tables() {
+/// Tries every call on so many cases.
+fn try_cases(cases: usize, case: fn(&mut Random) -> Lent) -> Tally {
     println!("seed {SEED}");
     let mut random = Random::new(SEED);
-    let mut tally = [0; 18];
-    for _ in 0..20_000 {
-        try_all(&damaged(&mut random), &mut tally);
+    let mut tally = [0; 20];
+    for _ in 0..cases {
+        try_all(&case(&mut random), &mut tally);
     }
     println!("how often each number was given: {tally:?}");
-    assert!(tally.iter().all(|&given| given > 0), "{tally:?}");
+    tally
+}
+
+#[test]
+fn damaged_tables() {
+    let tally = try_cases(40_000, damaged);
+    for (number, given) in tally.into_iter().enumerate() {
+        // There is no refusal 18.
+        assert_eq!(given > 0, number != 18, "{number}");
+    }
 }
 
 #[test]
 fn garbage_words() {
-    println!("seed {SEED}");
-    let mut random = Random::new(SEED);
-    let mut tally = [0; 18];
-    for _ in 0..20_000 {
-        try_all(&garbage(&mut random), &mut tally);
-    }
-    println!("how often each number was given: {tally:?}");
+    try_cases(40_000, garbage);
 }

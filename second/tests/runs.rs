@@ -1,4 +1,4 @@
-//! Random runs of 2 to 8 devices, held against the history.
+//! Random runs of 2 to 16 devices of both widths, held against the history.
 
 mod common;
 
@@ -15,6 +15,9 @@ const SEED: u64 = 20_050_214;
 struct Tally {
     passes: u32,
     settlings: u32,
+    widenings: u32,
+    /// Passes and settlings between two widths.
+    refused: u32,
     /// How often each number stood in an answer list.
     answers: [u32; 6],
     /// Passes within the bound's hypotheses that had something to carry.
@@ -26,7 +29,7 @@ struct Run {
     seed: u64,
     random: Random,
     plan: Vec<u32>,
-    sheets: Vec<u32>,
+    sheets: Vec<usize>,
     desk: Desk,
     history: History,
 }
@@ -40,40 +43,69 @@ impl Drop for Run {
 }
 
 impl Run {
-    /// New devices on a random plan of so many rows.
+    /// New devices on a random plan of so many rows. Each starts narrow or wide, from 8 on wide.
     fn new(seed: u64, rows: usize) -> Run {
         let mut random = Random::new(seed);
-        let plan = random_plan(&mut random, rows);
-        let sheets = sheets(&plan);
-        let devices = random.within(2..9) as u32;
+        let plan = plans::right(&mut random, rows);
+        let sheets = plans::sheets(&plan);
+        let devices = random.within(2..17);
+        let wide_once_in = random.one_of(&[1, 2, 4, 1000]);
+        let mut table = |device| {
+            let is_wide = device >= 8 || random.once_in(wide_once_in);
+            new_table(Width::BOTH[usize::from(is_wide)], device, &plan)
+        };
         Run {
             seed,
-            random,
-            desk: Desk::fresh(devices, &plan),
+            desk: Desk {
+                tables: (0..devices as u32).map(&mut table).collect(),
+            },
             history: History::new(devices, &sheets),
+            random,
             plan,
             sheets,
         }
     }
 
-    /// One event or pass, or a settling where there is something to settle.
+    /// One event, pass or widening, or a settling where there is something to settle.
     fn step(&mut self, tally: &mut Tally) {
-        match self.random.within(0..10) {
-            0..=3 if !self.sheets.is_empty() => self.event(),
-            4..=5 if !self.sheets.is_empty() => {
+        match self.random.within(0..40) {
+            0 => self.widen(tally),
+            1..=15 if !self.sheets.is_empty() => self.event(),
+            16..=23 if !self.sheets.is_empty() => {
                 let row = self.random.one_of(&self.sheets);
-                let (source, target) = self.two_devices();
+                let (source, target) = two_of(&mut self.random, &self.desk.tables);
                 self.settle(source, target, row, tally);
             }
             _ => self.pass(tally),
         }
     }
 
-    fn two_devices(&mut self) -> (usize, usize) {
-        let devices = self.desk.tables.len();
-        let source = self.random.within(0..devices);
-        let target = (source + self.random.within(1..devices)) % devices;
-        (source, target)
+    /// Whether two devices have tables of one width.
+    fn are_alike(&self, one: usize, other: usize) -> bool {
+        width(&self.desk.tables[one]) == width(&self.desk.tables[other])
+    }
+
+    /// A device's table becomes wide; the history hears nothing of it.
+    fn widen(&mut self, tally: &mut Tally) {
+        let device = self.random.within(0..self.desk.tables.len());
+        if width(&self.desk.tables[device]) == Width::Narrow {
+            self.desk.widen(device);
+            self.assert_agreed(device);
+            tally.widenings += 1;
+        }
+    }
+
+    /// Two tables of different width: nothing is passed and nothing settled.
+    fn assert_refused(&mut self, source: usize, target: usize, row: usize, tally: &mut Tally) {
+        let before = self.desk.tables.clone();
+        let mut answers = vec![u32::MAX; size(&before[target], row)];
+        let (source, target) = pair(&mut self.desk.tables, source, target);
+        let passed = second::pass(source, target, row as u32, &mut answers);
+        let settled = second::settle(source, target, row as u32, OWN, 1);
+        assert_eq!([passed, settled], [refused(19); 2]);
+        assert_eq!(self.desk.tables, before);
+        assert!(answers.iter().all(|&answer| answer == u32::MAX));
+        tally.refused += 1;
     }
 
     fn event(&mut self) {
@@ -88,26 +120,28 @@ impl Run {
         };
         let mark = self.random.word();
         let count = self.desk.event(device, row, event, mark);
-        assert_eq!(self.history.event(device as u32, row, act), Some(count));
+        let said = self.history.event(device, row, act);
+        assert_eq!(said, Some(count));
         self.assert_agreed(device);
     }
 
     fn pass(&mut self, tally: &mut Tally) {
-        let (source, target) = self.two_devices();
+        let (source, target) = two_of(&mut self.random, &self.desk.tables);
         let start = if self.random.once_in(2) {
             0
         } else {
-            self.random.within(0..self.plan.len()) as u32
+            self.random.within(0..self.plan.len())
         };
+        if !self.are_alike(source, target) {
+            return self.assert_refused(source, target, start, tally);
+        }
         let before = self.desk.tables.clone();
         let (answers, looked_at) = self.desk.pass(source, target, start);
         let rows = subtree(&before[target], start);
-        let rulings = self
-            .history
-            .pass(source as u32, target as u32, rows.clone());
+        let rulings = self.history.pass(source, target, rows.clone());
 
         for row in rows {
-            let answer = answers[(row - start) as usize];
+            let answer = answers[row - start];
             tally.answers[answer as usize] += 1;
             assert_eq!(
                 rulings.get(&row).map(|ruling| ruling.answer()),
@@ -131,7 +165,7 @@ impl Run {
         &mut self,
         source: usize,
         target: usize,
-        start: u32,
+        start: usize,
         answers: &[u32],
         tally: &mut Tally,
     ) {
@@ -143,7 +177,10 @@ impl Run {
     }
 
     /// Tries to settle a sheet: the history says whether there is a conflict.
-    fn settle(&mut self, source: usize, target: usize, row: u32, tally: &mut Tally) {
+    fn settle(&mut self, source: usize, target: usize, row: usize, tally: &mut Tally) {
+        if !self.are_alike(source, target) {
+            return self.assert_refused(source, target, row, tally);
+        }
         let (number, choice) = self.random.one_of(&[
             (THEIRS, Choice::Theirs),
             (OWN, Choice::Own),
@@ -151,10 +188,8 @@ impl Run {
         ]);
         let mark = self.random.word();
         let (source_words, target_words) = pair(&mut self.desk.tables, source, target);
-        let answer = second::settle(source_words, target_words, row, number, mark);
-        let said = self
-            .history
-            .settle(source as u32, target as u32, row, choice);
+        let answer = second::settle(source_words, target_words, row as u32, number, mark);
+        let said = self.history.settle(source, target, row, choice);
         assert_eq!(answer, said.map_or(refused(14), done));
         tally.settlings += u32::from(said.is_some());
         assert_sound(&self.desk.tables[target]);
@@ -165,7 +200,7 @@ impl Run {
     /// events of the sheet have been taken into account anywhere and here.
     fn assert_agreed(&self, device: usize) {
         let table = &self.desk.tables[device];
-        for (row, sheet) in self.history.sheets(device as u32) {
+        for (row, sheet) in self.history.sheets(device) {
             let (last, birth_event) = match sheet.state {
                 State::Never => (None, None),
                 State::Live { last, birth } => (Some(last), Some(birth)),
@@ -180,15 +215,15 @@ impl Run {
 
             let known = known(table, row);
             for event in self.events_of(row) {
-                let covered = known[event.device as usize] >= event.count;
+                let covered = known.count(event.device) >= event.count;
                 assert_eq!(covered, sheet.taken.contains(&event), "{event:?}");
             }
         }
     }
 
     /// All events of a sheet so far.
-    fn events_of(&self, row: u32) -> BTreeSet<Event> {
-        (0..self.desk.tables.len() as u32)
+    fn events_of(&self, row: usize) -> BTreeSet<Event> {
+        (0..self.desk.tables.len())
             .flat_map(|device| self.history.sheet(device, row).taken.iter().copied())
             .collect()
     }
@@ -203,11 +238,11 @@ fn event_in((device, count): (u32, u32)) -> Option<Event> {
 fn assert_list_is_right(
     source: &[u32],
     target: &[u32],
-    start: u32,
+    start: usize,
     answers: &[u32],
     looked_at: u32,
 ) {
-    let answer = |row: u32| answers[(row - start) as usize];
+    let answer = |row: usize| answers[row - start];
     let mut looked = 0;
     for row in subtree(target, start) {
         let beneath = (start..row)
@@ -225,22 +260,27 @@ fn assert_list_is_right(
 }
 
 /// Whether the summaries allow to pass over a folder.
-fn may_be_passed_over(source: &[u32], target: &[u32], folder: u32) -> bool {
-    let (known, least) = (known(target, folder), least(target, folder));
-    let newest = newest(source, folder);
-    is_level(source, folder)
-        && (0..8).all(|column| newest[column] <= known[column].max(least[column]))
+fn may_be_passed_over(source: &[u32], target: &[u32], folder: usize) -> bool {
+    let full_least = known(target, folder).greatest(vector(target, folder, Time::Least));
+    let newest = vector(source, folder, Time::Newest);
+    is_level(source, folder) && newest.greatest(full_least) == full_least
+}
+
+/// Whether a row is level; a sheet always is.
+fn is_level(table: &[u32], row: usize) -> bool {
+    let full = |time| known(table, row).greatest(vector(table, row, time));
+    full(Time::Least) == full(Time::Most)
 }
 
 /// The most rows that a pass may look at, if the paper sets a bound, and whether there is a sheet to carry.
-fn bound(source: &[u32], target: &[u32], start: u32) -> Option<(u64, bool)> {
+fn bound(source: &[u32], target: &[u32], start: usize) -> Option<(u64, bool)> {
     if !is_level(source, start) || !is_level(target, start) {
         return None;
     }
     let rows = subtree(source, start);
     let carried = rows.clone().filter(|&row| {
         let (device, count) = stamp(source, row);
-        count > known(target, row)[device as usize]
+        count > known(target, row).count(device)
     });
     let k = carried.count() as u64;
     let most_children = rows.map(|row| children(source, row).len() as u64).max();
@@ -249,7 +289,7 @@ fn bound(source: &[u32], target: &[u32], start: u32) -> Option<(u64, bool)> {
 }
 
 /// The levels of a subtree.
-fn levels(table: &[u32], row: u32) -> u64 {
+fn levels(table: &[u32], row: usize) -> u64 {
     let beneath = children(table, row)
         .into_iter()
         .map(|child| levels(table, child));
@@ -263,7 +303,7 @@ fn run(seed: u64, runs: usize, steps: usize, most_rows: usize) -> Tally {
     let mut tally = Tally::default();
     for _ in 0..runs {
         let rows = seeds.within(1..most_rows + 1);
-        let mut run = Run::new(seeds.next(), rows);
+        let mut run = Run::new(seeds.number(), rows);
         for _ in 0..steps {
             run.step(&mut tally);
         }
@@ -275,25 +315,26 @@ fn run(seed: u64, runs: usize, steps: usize, most_rows: usize) -> Tally {
 fn assert_saw_everything(tally: &Tally) {
     assert!(tally.answers.iter().all(|&seen| seen > 0), "{tally:?}");
     assert!(tally.settlings > 0 && tally.bounded > 0, "{tally:?}");
+    assert!(tally.widenings > 0 && tally.refused > 0, "{tally:?}");
 }
 
 #[test]
 fn small_trees() {
-    assert_saw_everything(&run(SEED, 600, 80, 8));
+    assert_saw_everything(&run(SEED, 1200, 80, 8));
 }
 
 #[test]
 fn middling_trees() {
-    assert_saw_everything(&run(SEED + 1, 150, 120, 40));
+    assert_saw_everything(&run(SEED + 1, 300, 120, 40));
 }
 
 #[test]
 fn large_trees() {
-    assert_saw_everything(&run(SEED + 2, 12, 150, 256));
+    assert_saw_everything(&run(SEED + 2, 24, 150, 256));
 }
 
 #[test]
 fn one_sheet_between_many_devices() {
-    let tally = run(SEED + 3, 300, 100, 2);
+    let tally = run(SEED + 3, 600, 100, 2);
     assert!(tally.settlings > 0, "{tally:?}");
 }

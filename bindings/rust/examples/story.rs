@@ -4,7 +4,7 @@
 //! with the laptop and with the desk: the correction must survive. If the tablet was worked on too, somebody has to hear
 //! of it: conflict, never silence.
 
-use kettleflock::{pass, settle, Answer, Choice, Kind, Passed, Plan, Refusal, Table};
+use kettleflock::{pass, settle, Answer, Choice, Columns, Kind, Passed, Plan, Refusal, Table};
 
 /// The duty sheet's row: a folder of two sheets and another sheet beneath the root.
 const SHEET: usize = 2;
@@ -27,21 +27,26 @@ fn tell(who: &str, passed: &Passed, target: &Table) {
         _ => "no answer",
     };
     let has = figure(target).map_or("nothing".to_string(), |mark| mark.to_string());
-    println!("{who}: {said}; the sheet there says {has} ({} rows looked at)", passed.looked_at());
+    println!(
+        "{who}: {said}; the sheet there says {has} ({} rows looked at)",
+        passed.looked_at()
+    );
 }
 
 fn main() -> Result<(), Refusal> {
     let plan = Plan::folder([Plan::folder([Plan::sheet(), Plan::sheet()]), Plan::sheet()]);
-    let mut desk = Table::new(0, &plan)?;
-    let mut tablet = Table::new(1, &plan)?;
-    let mut laptop = Table::new(2, &plan)?;
+    let mut desk = Table::new(Columns::Eight, 0, &plan)?;
+    let mut tablet = Table::new(Columns::Eight, 1, &plan)?;
+    let mut laptop = Table::new(Columns::Eight, 2, &plan)?;
 
     println!("The desk files a sheet, 700, and the tablet and the laptop take it along.");
     desk.create(SHEET, 700)?;
     tell("desk to tablet", &pass(&desk, &mut tablet, 0)?, &tablet);
     tell("desk to laptop", &pass(&desk, &mut laptop, 0)?, &laptop);
 
-    println!("The desk corrects it to 650, and the laptop hears of it. The tablet lies in a drawer.");
+    println!(
+        "The desk corrects it to 650, and the laptop hears of it. The tablet lies in a drawer."
+    );
     desk.change(SHEET, 650)?;
     tell("desk to laptop", &pass(&desk, &mut laptop, 0)?, &laptop);
 
@@ -51,21 +56,31 @@ fn main() -> Result<(), Refusal> {
     let desk_heard = pass(&tablet, &mut desk, 0)?;
     tell("tablet to desk", &desk_heard, &desk);
     let survives = figure(&laptop) == Some(650) && figure(&desk) == Some(650);
-    println!("The correction {}.", if survives { "survives" } else { "IS LOST" });
+    let fate = if survives { "survives" } else { "IS LOST" };
+    println!("The correction {fate}.");
 
     println!("Another day: the captain corrects the tablet's copy to 640 before it hears of 650.");
     tablet.change(SHEET, 640)?;
     let both = pass(&tablet, &mut desk, 0)?;
     tell("tablet to desk", &both, &desk);
     let said = both.conflicts().any(|row| row == SHEET);
-    println!("{}", if said { "Both figures are there, and somebody is asked." } else { "NOBODY HEARS OF IT." });
+    println!(
+        "{}",
+        if said {
+            "Both figures are there, and somebody is asked."
+        } else {
+            "NOBODY HEARS OF IT."
+        }
+    );
 
     println!("The desk settles by a new figure, 645, and it goes out.");
     settle(&tablet, &mut desk, SHEET, Choice::New { mark: 645 })?;
     tell("desk to tablet", &pass(&desk, &mut tablet, 0)?, &tablet);
     tell("desk to laptop", &pass(&desk, &mut laptop, 0)?, &laptop);
 
-    let settled = [&desk, &tablet, &laptop].iter().all(|table| figure(table) == Some(645));
+    let settled = [&desk, &tablet, &laptop]
+        .iter()
+        .all(|table| figure(table) == Some(645));
     if survives && said && settled {
         println!("Nothing was lost, and nothing was silent.");
         Ok(())

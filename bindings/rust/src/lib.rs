@@ -5,11 +5,11 @@
 //! somebody chooses: see [`settle`].
 //!
 //! ```
-//! use kettleflock::{pass, settle, Answer, Choice, Plan, Table};
+//! use kettleflock::{pass, settle, Answer, Choice, Columns, Plan, Table};
 //!
 //! let plan = Plan::folder([Plan::folder([Plan::sheet(), Plan::sheet()]), Plan::sheet()]);
-//! let mut desk = Table::new(0, &plan)?;
-//! let mut tablet = Table::new(1, &plan)?;
+//! let mut desk = Table::new(Columns::Eight, 0, &plan)?;
+//! let mut tablet = Table::new(Columns::Eight, 1, &plan)?;
 //!
 //! desk.create(2, 700)?;
 //! pass(&desk, &mut tablet, 0)?;
@@ -22,7 +22,11 @@
 //! assert_eq!(pass(&tablet, &mut desk, 0)?.answer(2), Some(Answer::Copy));
 //! # Ok::<(), kettleflock::Refusal>(())
 //! ```
+//!
+//! A table has eight columns, for devices 0 to 7, or sixteen, for devices 0 to 15. Tables that meet have equally many:
+//! see [`Columns`] and [`Table::widen`].
 
+pub mod layout;
 pub mod raw;
 
 mod pass;
@@ -31,6 +35,7 @@ mod refusal;
 mod row;
 mod table;
 
+pub use layout::Columns;
 pub use pass::{pass, settle, standing, Answer, Choice, Passed, Standing};
 pub use plan::Plan;
 pub use refusal::Refusal;
@@ -39,10 +44,9 @@ pub use table::Table;
 
 /// The count of a call that succeeded.
 fn succeed(answer: raw::Answer) -> Result<u32, Refusal> {
-    match answer.number {
-        0 => Ok(answer.count),
-        number => Err(Refusal::from_number(number)
-            .unwrap_or_else(|| unreachable!("a refusal is 1 to 17, not {number}"))),
+    match Refusal::from_number(answer.number) {
+        None => Ok(answer.count),
+        Some(refusal) => Err(refusal),
     }
 }
 

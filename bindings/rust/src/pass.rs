@@ -98,11 +98,11 @@ pub enum Standing<'a> {
 /// The target's sheets and times are brought up to date, but for conflicts, which change nothing.
 ///
 /// ```
-/// use kettleflock::{pass, Answer, Plan, Table};
+/// use kettleflock::{pass, Answer, Columns, Plan, Table};
 ///
 /// let plan = Plan::folder([Plan::folder([Plan::sheet(), Plan::sheet()]), Plan::sheet()]);
-/// let mut desk = Table::new(0, &plan)?;
-/// let mut tablet = Table::new(1, &plan)?;
+/// let mut desk = Table::new(Columns::Eight, 0, &plan)?;
+/// let mut tablet = Table::new(Columns::Eight, 1, &plan)?;
 /// desk.create(2, 700)?;
 ///
 /// let passed = pass(&desk, &mut tablet, 0)?;
@@ -135,11 +135,11 @@ pub fn pass(source: &Table, target: &mut Table, row: usize) -> Result<Passed, Re
 /// makes one.
 ///
 /// ```
-/// use kettleflock::{pass, settle, Choice, Kind, Plan, Table};
+/// use kettleflock::{pass, settle, Choice, Columns, Plan, Table};
 ///
 /// let plan = Plan::folder([Plan::sheet()]);
-/// let mut desk = Table::new(0, &plan)?;
-/// let mut tablet = Table::new(1, &plan)?;
+/// let mut desk = Table::new(Columns::Eight, 0, &plan)?;
+/// let mut tablet = Table::new(Columns::Eight, 1, &plan)?;
 /// desk.create(1, 10)?;
 /// tablet.create(1, 20)?;
 ///
@@ -174,11 +174,11 @@ pub fn settle(
 /// The row that stands if the source is passed to the target. Nothing is changed.
 ///
 /// ```
-/// use kettleflock::{standing, Plan, Standing, Table};
+/// use kettleflock::{standing, Columns, Plan, Standing, Table};
 ///
 /// let plan = Plan::folder([Plan::sheet()]);
-/// let mut desk = Table::new(0, &plan)?;
-/// let tablet = Table::new(1, &plan)?;
+/// let mut desk = Table::new(Columns::Eight, 0, &plan)?;
+/// let tablet = Table::new(Columns::Eight, 1, &plan)?;
 /// desk.create(1, 10)?;
 ///
 /// assert!(matches!(standing(&desk, &tablet, 1)?, Standing::Source(_)));

@@ -8,9 +8,11 @@
 //!
 //! let mut table = [0; 120];
 //! assert_eq!(raw::check(&table).number, 1);
-//! assert_eq!(raw::new(0, &[2, 0], &mut table), raw::Answer { number: 0, count: 2 });
+//! assert_eq!(raw::new(8, 0, &[2, 0], &mut table), raw::Answer { number: 0, count: 2 });
 //! assert_eq!(raw::check(&table), raw::Answer { number: 0, count: 2 });
 //! ```
+//!
+//! [`layout`](crate::layout) has the lengths of tables and the places of their words.
 
 /// What every call gives: a refusal's number, or 0, and a count.
 #[derive(Clone, Copy, Debug, PartialEq, Eq, Hash)]
@@ -28,11 +30,18 @@ mod exports {
     extern "C" {
         pub fn kf_check(table: *const u32, table_length: usize) -> Answer;
         pub fn kf_new(
+            columns: u32,
             device: u32,
             plan: *const u32,
             plan_length: usize,
             table: *mut u32,
             table_length: usize,
+        ) -> Answer;
+        pub fn kf_widen(
+            table: *const u32,
+            table_length: usize,
+            wide: *mut u32,
+            wide_length: usize,
         ) -> Answer;
         pub fn kf_event(
             table: *mut u32,
@@ -86,11 +95,21 @@ pub fn check(table: &[u32]) -> Answer {
     unsafe { exports::kf_check(table.as_ptr(), table.len()) }
 }
 
-/// Makes a new table of a device from a plan, a number a row: 0 a sheet, k a folder of size k. Counts its rows.
-pub fn new(device: u32, plan: &[u32], table: &mut [u32]) -> Answer {
+/// Makes a new table of 8 or 16 columns for a device from a plan, a number a row: 0 a sheet, k a folder of size k.
+/// Counts its rows.
+///
+/// ```
+/// use kettleflock::{raw, Columns};
+///
+/// let mut table = vec![0; Columns::Sixteen.length(2)];
+/// assert_eq!(raw::new(16, 15, &[2, 0], &mut table).number, 0);
+/// assert_eq!(raw::new(12, 15, &[2, 0], &mut table).number, 19);
+/// ```
+pub fn new(columns: u32, device: u32, plan: &[u32], table: &mut [u32]) -> Answer {
     // SAFETY: see above.
     unsafe {
         exports::kf_new(
+            columns,
             device,
             plan.as_ptr(),
             plan.len(),
@@ -98,6 +117,22 @@ pub fn new(device: u32, plan: &[u32], table: &mut [u32]) -> Answer {
             table.len(),
         )
     }
+}
+
+/// Writes a table of 8 columns with 16: the same events and times, zeros in the new columns. Counts its rows.
+///
+/// ```
+/// use kettleflock::{raw, Columns};
+///
+/// let mut table = vec![0; Columns::Eight.length(2)];
+/// let mut wide = vec![0; Columns::Sixteen.length(2)];
+/// raw::new(8, 0, &[2, 0], &mut table);
+/// assert_eq!(raw::widen(&table, &mut wide), raw::Answer { number: 0, count: 2 });
+/// assert_eq!(raw::check(&wide).number, 0);
+/// ```
+pub fn widen(table: &[u32], wide: &mut [u32]) -> Answer {
+    // SAFETY: see above.
+    unsafe { exports::kf_widen(table.as_ptr(), table.len(), wide.as_mut_ptr(), wide.len()) }
 }
 
 /// Creates (1), changes (2) or removes (3) a sheet; counts the new stamp.
@@ -139,7 +174,7 @@ pub fn settle(source: &[u32], target: &mut [u32], row: u32, choice: u32, mark: u
     }
 }
 
-/// Shows all rows beneath a folder; counts their words, which start at word 40(row + 2).
+/// Shows all rows beneath a folder; counts their words, which start where the next row does.
 pub fn beneath(table: &[u32], row: u32) -> Answer {
     // SAFETY: see above.
     unsafe { exports::kf_beneath(table.as_ptr(), table.len(), row) }

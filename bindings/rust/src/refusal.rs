@@ -9,55 +9,59 @@ use std::fmt;
 /// here so that the list is the paper's.
 ///
 /// ```
-/// use kettleflock::{Plan, Refusal, Table};
+/// use kettleflock::{Columns, Plan, Refusal, Table};
 ///
-/// let refusal = Table::new(8, &Plan::folder([])).unwrap_err();
+/// let refusal = Table::new(Columns::Eight, 8, &Plan::folder([])).unwrap_err();
 /// assert_eq!(refusal, Refusal::NoSuchDevice);
-/// assert_eq!(refusal.to_string(), "new table's device above 7");
+/// assert_eq!(refusal.to_string(), "new table's device above 7 (above 15 with 16 columns)");
 /// assert_eq!(refusal.number(), 17);
 /// ```
 #[derive(Clone, Copy, Debug, PartialEq, Eq, Hash)]
-#[repr(u32)]
+#[non_exhaustive]
 pub enum Refusal {
     /// The length or the head of the table, or of the source, is wrong.
-    Head = 1,
+    Head,
     /// The rows of the table, of the source or of the plan are out of order.
-    Order = 2,
+    Order,
     /// The table or the source breaks another rule of the layout or the times.
-    Rule = 3,
+    Rule,
     /// The two tables are not of one tree.
-    PlacesDiffer = 4,
+    PlacesDiffer,
     /// The two tables are of one device.
-    OneDevice = 5,
+    OneDevice,
     /// The source knows of a later time of the target than the target itself.
-    SourceAhead = 6,
+    SourceAhead,
     /// The target knows of a later time of the source than the source itself.
-    TargetAhead = 7,
+    TargetAhead,
     /// There is no such row, or it's not the folder that is needed.
-    NoSuchRow = 8,
+    NoSuchRow,
     /// A lent output has the wrong length.
-    WrongLength = 9,
+    WrongLength,
     /// The row is not of a kind to which this can be done.
-    Unfit = 10,
+    Unfit,
     /// The length or the head of the target is wrong.
-    TargetHead = 11,
+    TargetHead,
     /// The rows of the target are out of order.
-    TargetOrder = 12,
+    TargetOrder,
     /// The target breaks another rule of the layout or the times.
-    TargetRule = 13,
+    TargetRule,
     /// There is no conflict to settle.
-    NoConflict = 14,
+    NoConflict,
     /// The device has no next count.
-    CounterFull = 15,
+    CounterFull,
     /// There is no such event or choice.
-    NoSuchChoice = 16,
+    NoSuchChoice,
     /// There is no such device.
-    NoSuchDevice = 17,
+    NoSuchDevice,
+    /// The two tables differ in width, or the table to be widened is wide.
+    Width,
+    /// A number that this crate has no name for: the library is newer.
+    Unknown(u32),
 }
 
 impl Refusal {
-    /// All refusals, by number.
-    pub const ALL: [Refusal; 17] = [
+    /// All refusals that have a name, by number.
+    pub const ALL: &'static [Refusal] = &[
         Refusal::Head,
         Refusal::Order,
         Refusal::Rule,
@@ -75,62 +79,93 @@ impl Refusal {
         Refusal::CounterFull,
         Refusal::NoSuchChoice,
         Refusal::NoSuchDevice,
+        Refusal::Width,
     ];
 
-    /// The refusal of this number, 1 to 17.
+    /// The refusal of this number; `None` for 0, which is success.
+    ///
+    /// ```
+    /// use kettleflock::Refusal;
+    ///
+    /// assert_eq!(Refusal::from_number(0), None);
+    /// assert_eq!(Refusal::from_number(19), Some(Refusal::Width));
+    /// assert_eq!(Refusal::from_number(1000), Some(Refusal::Unknown(1000)));
+    /// ```
     pub fn from_number(number: u32) -> Option<Refusal> {
-        Refusal::ALL
-            .into_iter()
-            .find(|refusal| refusal.number() == number)
+        let mut named = Refusal::ALL.iter().copied();
+        match number {
+            0 => None,
+            _ => named
+                .find(|refusal| refusal.number() == number)
+                .or(Some(Refusal::Unknown(number))),
+        }
     }
 
     /// The number of this refusal.
     pub fn number(self) -> u32 {
-        self as u32
+        self.entry().0
     }
 
-    /// The paper's words for it.
-    fn words(self) -> &'static str {
+    /// The paper's number and words for it.
+    fn entry(self) -> (u32, &'static str) {
         match self {
-            Refusal::Head | Refusal::TargetHead => {
-                "length or head wrong: device above 7, row count not 1 to 256 or not matching the length, \
-                 non-zero rest"
-            }
-            Refusal::Order | Refusal::TargetOrder => {
-                "a kind is above 3, or sizes, row 0 or levels break the order of rows; or a plan that would \
-                 give such rows"
-            }
-            Refusal::Rule | Refusal::TargetRule => {
-                "any other rule of the layout or the times is broken"
-            }
-            Refusal::PlacesDiffer => "sizes or folder places differ between the tables",
-            Refusal::OneDevice => "both tables have one device number",
-            Refusal::SourceAhead => {
-                "a floor in the source names a later count of the target's device than its counter"
-            }
-            Refusal::TargetAhead => {
-                "a floor in the target names a later count of the source's device than its counter"
-            }
-            Refusal::NoSuchRow => "no such row (for the rows under a folder: or not a folder)",
-            Refusal::WrongLength => "a lent output has the wrong length",
-            Refusal::Unfit => {
-                "event unfit for the row's kind, or settling a folder; showing a folder as the row that stands"
-            }
-            Refusal::NoConflict => "settling where the rules don't say conflict",
-            Refusal::CounterFull => "the counter is 4,294,967,295 and a new stamp is needed",
-            Refusal::NoSuchChoice => "event or choice not 1, 2 or 3",
-            Refusal::NoSuchDevice => "new table's device above 7",
+            Refusal::Head => (1, HEAD),
+            Refusal::Order => (2, ORDER),
+            Refusal::Rule => (3, RULE),
+            Refusal::PlacesDiffer => (4, "sizes or folder places differ between the tables"),
+            Refusal::OneDevice => (5, "both tables have one device number"),
+            Refusal::SourceAhead => (
+                6,
+                "a floor in the source names a later count of the target's device than its counter",
+            ),
+            Refusal::TargetAhead => (
+                7,
+                "a floor in the target names a later count of the source's device than its counter",
+            ),
+            Refusal::NoSuchRow => (8, "no such row (for the rows under a folder: or not a folder)"),
+            Refusal::WrongLength => (9, "a lent output has the wrong length"),
+            Refusal::Unfit => (
+                10,
+                "event unfit for the row's kind, or settling a folder; showing a folder as the row \
+                 that stands",
+            ),
+            Refusal::TargetHead => (11, HEAD),
+            Refusal::TargetOrder => (12, ORDER),
+            Refusal::TargetRule => (13, RULE),
+            Refusal::NoConflict => (14, "settling where the rules don't say conflict"),
+            Refusal::CounterFull => (15, "the counter is 4,294,967,295 and a new stamp is needed"),
+            Refusal::NoSuchChoice => (16, "event or choice not 1, 2 or 3"),
+            Refusal::NoSuchDevice => (17, "new table's device above 7 (above 15 with 16 columns)"),
+            Refusal::Width => (
+                19,
+                "two tables of different width; new table's columns neither 8 nor 16; widening a \
+                 table that is wide already",
+            ),
+            Refusal::Unknown(number) => (number, "a refusal that this crate has no words for"),
         }
     }
 }
 
+/// What is wrong with the head of a table.
+const HEAD: &str =
+    "length or head wrong: device above 7 (above 15 in a wide table), row count not 1 to \
+                    256 or not matching the length, word 3 neither 0 nor 16, non-zero rest";
+/// What is wrong with the order of rows.
+const ORDER: &str =
+    "a kind is above 3, or sizes, row 0 or levels break the order of rows; or a plan \
+                     that would give such rows";
+/// What is wrong with a table otherwise.
+const RULE: &str = "any other rule of the layout or the times is broken";
+
 impl fmt::Display for Refusal {
     fn fmt(&self, out: &mut fmt::Formatter<'_>) -> fmt::Result {
+        let (number, words) = self.entry();
         match self {
             Refusal::TargetHead | Refusal::TargetOrder | Refusal::TargetRule => {
-                write!(out, "for the target: {}", self.words())
+                write!(out, "for the target: {words}")
             }
-            _ => out.write_str(self.words()),
+            Refusal::Unknown(_) => write!(out, "{words}: {number}"),
+            _ => out.write_str(words),
         }
     }
 }

@@ -1,11 +1,11 @@
 //! Reading rows.
 
-use crate::table::WIDTH;
+use crate::layout::{row, Columns};
 
 /// The name of an event: the device it happened on and that device's count of it.
 #[derive(Clone, Copy, Debug, PartialEq, Eq, Hash)]
 pub struct Stamp {
-    /// The device, 0 to 7.
+    /// The device, below the number of the table's columns.
     pub device: u32,
     /// How many-th event of the device it is, from 1.
     pub count: u32,
@@ -35,18 +35,23 @@ pub enum Kind {
 }
 
 /// A row of a table, read where it lies.
+///
+/// ```
+/// use kettleflock::{Columns, Kind, Plan, Table};
+///
+/// let table = Table::new(Columns::Eight, 0, &Plan::folder([Plan::sheet()]))?;
+/// let sheet = table.row(1).expect("a row");
+/// assert_eq!((sheet.number(), sheet.size(), sheet.kind()), (1, 1, Kind::Never));
+/// # Ok::<(), kettleflock::Refusal>(())
+/// ```
 #[derive(Clone, Copy, Debug, PartialEq, Eq)]
 pub struct Row<'a> {
+    columns: Columns,
     number: usize,
     words: &'a [u32],
 }
 
 impl<'a> Row<'a> {
-    /// The row of this number in these forty words of a sound table.
-    pub(crate) fn new(number: usize, words: &'a [u32]) -> Row<'a> {
-        Row { number, words }
-    }
-
     /// The row's number, from 0, the root.
     pub fn number(&self) -> usize {
         self.number
@@ -54,15 +59,15 @@ impl<'a> Row<'a> {
 
     /// What the row is.
     pub fn kind(&self) -> Kind {
-        match self.words[0] {
+        match self.words[row::KIND] {
             0 => Kind::Never,
             1 => Kind::Live {
-                stamp: self.stamp_at(2),
-                birth: self.stamp_at(4),
-                mark: self.words[6],
+                stamp: self.stamp_at(row::STAMP),
+                birth: self.stamp_at(row::BIRTH),
+                mark: self.words[row::MARK],
             },
             2 => Kind::Removed {
-                stamp: self.stamp_at(2),
+                stamp: self.stamp_at(row::STAMP),
             },
             _ => Kind::Folder,
         }
@@ -70,15 +75,28 @@ impl<'a> Row<'a> {
 
     /// How many rows its subtree has: itself, and all beneath.
     pub fn size(&self) -> usize {
-        self.words[1] as usize
+        self.words[row::SIZE] as usize
     }
 
     /// What the table knows here beyond the rows above: a count for each device.
+    ///
+    /// ```
+    /// use kettleflock::{pass, Columns, Plan, Table};
+    ///
+    /// let plan = Plan::folder([Plan::sheet()]);
+    /// let mut desk = Table::new(Columns::Eight, 0, &plan)?;
+    /// let mut tablet = Table::new(Columns::Eight, 1, &plan)?;
+    /// desk.create(1, 700)?;
+    /// pass(&desk, &mut tablet, 0)?;
+    /// let sheet = tablet.row(1).expect("a row");
+    /// assert_eq!(sheet.floor(), [1, 0, 0, 0, 0, 0, 0, 0]);
+    /// # Ok::<(), kettleflock::Refusal>(())
+    /// ```
     pub fn floor(&self) -> &'a [u32] {
-        &self.words[8..16]
+        &self.words[row::FLOOR..self.columns.newest()]
     }
 
-    /// The row's forty words.
+    /// The row's words, 40 or 72.
     pub fn words(&self) -> &'a [u32] {
         self.words
     }
@@ -92,18 +110,30 @@ impl<'a> Row<'a> {
 }
 
 /// Some rows that follow each other, read where they lie.
+///
+/// ```
+/// use kettleflock::{Columns, Kind, Plan, Table};
+///
+/// let mut table = Table::new(Columns::Sixteen, 9, &Plan::folder([Plan::sheet(), Plan::sheet()]))?;
+/// table.create(2, 700)?;
+/// let live = table.rows().filter(|row| matches!(row.kind(), Kind::Live { .. }));
+/// assert_eq!(live.map(|row| row.number()).collect::<Vec<_>>(), [2]);
+/// # Ok::<(), kettleflock::Refusal>(())
+/// ```
 #[derive(Clone, Debug)]
 pub struct Rows<'a> {
+    columns: Columns,
     next: usize,
     words: std::slice::ChunksExact<'a, u32>,
 }
 
 impl<'a> Rows<'a> {
     /// The rows in these words of a sound table, the first having this number.
-    pub(crate) fn new(first: usize, words: &'a [u32]) -> Rows<'a> {
+    pub(crate) fn new(columns: Columns, first: usize, words: &'a [u32]) -> Rows<'a> {
         Rows {
+            columns,
             next: first,
-            words: words.chunks_exact(WIDTH),
+            words: words.chunks_exact(columns.width()),
         }
     }
 }
@@ -112,10 +142,18 @@ impl<'a> Iterator for Rows<'a> {
     type Item = Row<'a>;
 
     fn next(&mut self) -> Option<Row<'a>> {
-        let words = self.words.next()?;
-        let row = Row::new(self.next, words);
-        self.next += 1;
-        Some(row)
+        self.nth(0)
+    }
+
+    fn nth(&mut self, skipped: usize) -> Option<Row<'a>> {
+        let words = self.words.nth(skipped)?;
+        let number = self.next + skipped;
+        self.next = number + 1;
+        Some(Row {
+            columns: self.columns,
+            number,
+            words,
+        })
     }
 
     fn size_hint(&self) -> (usize, Option<usize>) {

@@ -1,18 +1,16 @@
 //! A device's table.
 
+use crate::layout::{head, Columns};
 use crate::plan::Plan;
 use crate::row::{Row, Rows};
 use crate::{number, raw, succeed, Refusal};
 
-/// The words of a row, and of the head before the rows.
-pub const WIDTH: usize = 40;
-
 /// A device's table of times for a tree of duty sheets. It is always sound.
 ///
 /// ```
-/// use kettleflock::{Kind, Plan, Table};
+/// use kettleflock::{Columns, Kind, Plan, Table};
 ///
-/// let mut table = Table::new(0, &Plan::folder([Plan::sheet()]))?;
+/// let mut table = Table::new(Columns::Eight, 0, &Plan::folder([Plan::sheet()]))?;
 /// assert_eq!(table.create(1, 700)?, 1);
 /// assert_eq!(table.change(1, 701)?, 2);
 /// let sheet = table.row(1).expect("a row");
@@ -25,20 +23,29 @@ pub struct Table {
 }
 
 impl Table {
-    /// A new table of a device, 0 to 7: no event has happened.
-    pub fn new(device: u32, plan: &Plan) -> Result<Table, Refusal> {
+    /// A new table of a device, which is below the number of columns: no event has happened.
+    ///
+    /// ```
+    /// use kettleflock::{Columns, Plan, Refusal, Table};
+    ///
+    /// let plan = Plan::folder([Plan::sheet()]);
+    /// assert_eq!(Table::new(Columns::Sixteen, 15, &plan)?.counter(), 0);
+    /// assert_eq!(Table::new(Columns::Eight, 15, &plan), Err(Refusal::NoSuchDevice));
+    /// # Ok::<(), Refusal>(())
+    /// ```
+    pub fn new(columns: Columns, device: u32, plan: &Plan) -> Result<Table, Refusal> {
         let plan = plan.numbers();
-        let mut words = vec![0; WIDTH * (plan.len() + 1)];
-        succeed(raw::new(device, &plan, &mut words))?;
+        let mut words = vec![0; columns.length(plan.len())];
+        succeed(raw::new(columns as u32, device, &plan, &mut words))?;
         Ok(Table { words })
     }
 
     /// The table in these words, if it is sound.
     ///
     /// ```
-    /// use kettleflock::{Plan, Refusal, Table};
+    /// use kettleflock::{Columns, Plan, Refusal, Table};
     ///
-    /// let table = Table::new(3, &Plan::folder([]))?;
+    /// let table = Table::new(Columns::Eight, 3, &Plan::folder([]))?;
     /// let words = table.clone().into_words();
     /// assert_eq!(Table::from_words(words)?, table);
     /// assert_eq!(Table::from_words(vec![]), Err(Refusal::Head));
@@ -46,6 +53,30 @@ impl Table {
     /// ```
     pub fn from_words(words: Vec<u32>) -> Result<Table, Refusal> {
         succeed(raw::check(&words))?;
+        Ok(Table { words })
+    }
+
+    /// This table with sixteen columns: the same events and times, zeros in the new columns. The device goes on from
+    /// it; only tables of one width can be passed to each other.
+    ///
+    /// ```
+    /// use kettleflock::{pass, Columns, Plan, Refusal, Table};
+    ///
+    /// let plan = Plan::folder([Plan::sheet()]);
+    /// let mut desk = Table::new(Columns::Eight, 0, &plan)?;
+    /// let mut ninth = Table::new(Columns::Sixteen, 8, &plan)?;
+    /// desk.create(1, 700)?;
+    /// assert_eq!(pass(&desk, &mut ninth, 0), Err(Refusal::Width));
+    ///
+    /// let desk = desk.widen()?;
+    /// assert_eq!(desk.columns(), Columns::Sixteen);
+    /// assert!(pass(&desk, &mut ninth, 0).is_ok());
+    /// assert_eq!(desk.widen(), Err(Refusal::Width));
+    /// # Ok::<(), Refusal>(())
+    /// ```
+    pub fn widen(&self) -> Result<Table, Refusal> {
+        let mut words = vec![0; Columns::Sixteen.length(self.rows().len())];
+        succeed(raw::widen(&self.words, &mut words))?;
         Ok(Table { words })
     }
 
@@ -64,14 +95,19 @@ impl Table {
         &mut self.words
     }
 
-    /// The device, 0 to 7.
+    /// How many columns its vectors have.
+    pub fn columns(&self) -> Columns {
+        Columns::of(&self.words)
+    }
+
+    /// The device, below the number of columns.
     pub fn device(&self) -> u32 {
-        self.words[0]
+        self.words[head::DEVICE]
     }
 
     /// How many events have happened on the device.
     pub fn counter(&self) -> u32 {
-        self.words[1]
+        self.words[head::COUNTER]
     }
 
     /// A row, from 0, the root.
@@ -81,16 +117,17 @@ impl Table {
 
     /// All rows, depth first.
     pub fn rows(&self) -> Rows<'_> {
-        Rows::new(0, &self.words[WIDTH..])
+        let columns = self.columns();
+        Rows::new(columns, 0, &self.words[columns.row(0)..])
     }
 
     /// All rows beneath a folder.
     ///
     /// ```
-    /// use kettleflock::{Plan, Refusal, Table};
+    /// use kettleflock::{Columns, Plan, Refusal, Table};
     ///
     /// let week = Plan::folder([Plan::sheet(), Plan::sheet()]);
-    /// let table = Table::new(0, &Plan::folder([week, Plan::sheet()]))?;
+    /// let table = Table::new(Columns::Eight, 0, &Plan::folder([week, Plan::sheet()]))?;
     /// let rows: Vec<usize> = table.beneath(1)?.map(|row| row.number()).collect();
     /// assert_eq!(rows, [2, 3]);
     /// assert_eq!(table.beneath(2).unwrap_err(), Refusal::NoSuchRow);
@@ -98,8 +135,9 @@ impl Table {
     /// ```
     pub fn beneath(&self, folder: usize) -> Result<Rows<'_>, Refusal> {
         let length = succeed(raw::beneath(&self.words, number(folder)))? as usize;
-        let start = WIDTH * (folder + 2);
-        Ok(Rows::new(folder + 1, &self.words[start..start + length]))
+        let (columns, first) = (self.columns(), folder + 1);
+        let words = &self.words[columns.row(first)..][..length];
+        Ok(Rows::new(columns, first, words))
     }
 
     /// Creates a sheet that isn't there. Gives the count of the event.

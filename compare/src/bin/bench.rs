@@ -1,19 +1,24 @@
-//! Measures check and pass of the product against the obvious program, and against merely reading the tables.
-//! `bench [--rounds N]`: in each round every one of them is timed once, so that whatever slows the machine slows all.
+//! Measures check and pass of the product, at both widths, against the obvious program and against merely reading the
+//! tables. `bench [--rounds N] [--beside FOLDER]`: in each round every one of them is timed once, so that whatever
+//! slows the machine slows all. With `--beside` the archive in that folder is measured too, on narrow tables, and the
+//! product is loaded in the same way, from the folder that KETTLEFLOCK_LIB_DIR names.
 
 use std::env;
 use std::hint::black_box;
+use std::path::{Path, PathBuf};
 use std::process::ExitCode;
 use std::time::{Duration, Instant};
 
 use compare::call::{Call, Lent};
 use compare::judge::Judge;
-use compare::layout::{fresh, rows, MOST_ROWS};
 use compare::lents;
+use compare::loaded::Loaded;
 use compare::obvious;
-use compare::program::{Program, PRODUCT, SECOND};
-use compare::random::Random;
+use compare::program::{Answer, Program, PRODUCT, SECOND};
 use compare::show;
+use second::layout::{Width, MOST_ROWS};
+use second::trial::look::{fresh, rows};
+use second::trial::{plans, Random};
 
 /// The obvious program, of check and pass alone.
 const OBVIOUS: Program = Program {
@@ -31,41 +36,77 @@ const FOLDERS: usize = 15;
 const SHEETS: usize = 16;
 
 fn main() -> ExitCode {
-    let rounds = match rounds(env::args().skip(1).collect()) {
-        Ok(rounds) => rounds,
+    let options = match Options::read(env::args().skip(1)) {
+        Ok(options) => options,
         Err(what) => {
-            eprintln!("{what}\nusage: bench [--rounds N]");
+            eprintln!("{what}\nusage: bench [--rounds N] [--beside FOLDER]");
             return ExitCode::from(2);
         }
     };
-    if let Err(what) = obvious_is_right() {
-        println!("the obvious program is wrong, so nothing is measured:\n{what}");
-        return ExitCode::FAILURE;
+    match measure(&options) {
+        Ok(()) => ExitCode::SUCCESS,
+        Err(what) => {
+            println!("{what}");
+            ExitCode::FAILURE
+        }
     }
-    println!("the obvious program and the second one are alike on {CASES} pairs of tables");
-    println!("{MOST_ROWS} rows: a root, {FOLDERS} folders, {SHEETS} sheets in each");
-    println!("middle values of {rounds} rounds, in microseconds");
-    println!();
-    println!(
-        "{:28} {:>8} {:>8} {:>8}   {:>15} {:>15}",
-        "", "product", "obvious", "reading", "product/obvious", "product/reading"
-    );
-    for (name, source, target) in pairs() {
-        Timed::check(&source, rounds).print(&format!("check, {name}"));
-        Timed::pass(&source, &target, rounds).print(&format!("pass, {name}"));
-    }
-    ExitCode::SUCCESS
 }
 
-fn rounds(words: Vec<String>) -> Result<usize, String> {
-    match words.as_slice() {
-        [] => Ok(3001),
-        [option, number] if option == "--rounds" => match number.parse() {
-            Ok(rounds) if rounds > 0 => Ok(rounds),
-            _ => Err(format!("{number}: no number of rounds")),
-        },
-        _ => Err(format!("{words:?}: no such option")),
+/// What the command line asks for.
+struct Options {
+    rounds: usize,
+    beside: Option<PathBuf>,
+}
+
+impl Options {
+    fn read(mut words: impl Iterator<Item = String>) -> Result<Options, String> {
+        let mut options = Options {
+            rounds: 3001,
+            beside: None,
+        };
+        while let Some(option) = words.next() {
+            let value = words.next().ok_or(format!("{option} needs a value"))?;
+            match (option.as_str(), value.parse()) {
+                ("--rounds", Ok(rounds @ 1..)) => options.rounds = rounds,
+                ("--beside", _) => options.beside = Some(value.into()),
+                _ => return Err(format!("{option} {value}: no such option")),
+            }
+        }
+        Ok(options)
     }
+}
+
+fn measure(options: &Options) -> Result<(), String> {
+    obvious_is_right()
+        .map_err(|what| format!("the obvious program is wrong, so nothing is measured:\n{what}"))?;
+    println!("the obvious program and the second one are alike on {CASES} pairs of tables");
+    println!("{MOST_ROWS} rows: a root, {FOLDERS} folders, {SHEETS} sheets in each");
+    println!(
+        "middle values of {} rounds, in microseconds",
+        options.rounds
+    );
+    let Some(beside) = &options.beside else {
+        for width in Width::BOTH {
+            let measured: [(_, &dyn Measured); 3] = [
+                ("product", &PRODUCT),
+                ("obvious", &OBVIOUS),
+                ("reading", &Reading),
+            ];
+            print_all(width, &measured, options.rounds);
+        }
+        return Ok(());
+    };
+    let folder = env::var_os("KETTLEFLOCK_LIB_DIR").ok_or("KETTLEFLOCK_LIB_DIR isn't set")?;
+    let product = Loaded::new(Path::new(&folder))?;
+    let beside = Loaded::new(beside)?;
+    let measured: [(_, &dyn Measured); 4] = [
+        ("product", &product),
+        ("beside", &beside),
+        ("obvious", &OBVIOUS),
+        ("reading", &Reading),
+    ];
+    print_all(Width::Narrow, &measured, options.rounds);
+    Ok(())
 }
 
 /// Holds the obvious program against the second one: on made-up tables, sound and damaged, and on those measured.
@@ -79,7 +120,8 @@ fn obvious_is_right() -> Result<(), String> {
             _ => lents::damaged(random, 12),
         }
     });
-    let measured = pairs().into_iter().map(|(_, source, target)| Lent {
+    let pairs = Width::BOTH.into_iter().flat_map(pairs);
+    let measured = pairs.map(|(_, source, target)| Lent {
         answers: vec![0; rows(&target)],
         source,
         target,
@@ -96,18 +138,17 @@ fn obvious_is_right() -> Result<(), String> {
 }
 
 /// Source and target of each measurement: the target has all that the source had before its last changes.
-fn pairs() -> [(&'static str, Vec<u32>, Vec<u32>); 3] {
+fn pairs(width: Width) -> [(&'static str, Vec<u32>, Vec<u32>); 3] {
     let folder = || [SHEETS as u32 + 1].into_iter().chain([0; SHEETS]);
     let plan: Vec<u32> = [MOST_ROWS as u32]
         .into_iter()
         .chain((0..FOLDERS).flat_map(|_| folder()))
         .collect();
-    let sheets: Vec<u32> = (0..MOST_ROWS as u32)
-        .filter(|&row| plan[row as usize] == 0)
-        .collect();
-    let mut source = fresh(0, &plan);
-    let mut target = fresh(1, &plan);
-    let event = |table: &mut [u32], row: u32, act: u32| {
+    let sheets = plans::sheets(&plan);
+    let mut source = fresh(width, 0, &plan);
+    let mut target = fresh(width, 1, &plan);
+    let event = |table: &mut [u32], row: usize, act: u32| {
+        let row = row as u32;
         assert_eq!(second::event(table, row, act, 1000 + row).number, 0);
     };
     for &row in &sheets {
@@ -130,89 +171,111 @@ fn pairs() -> [(&'static str, Vec<u32>, Vec<u32>); 3] {
     ]
 }
 
-/// What was timed, round by round.
-#[derive(Default)]
-struct Timed {
-    product: Vec<Duration>,
-    obvious: Vec<Duration>,
-    reading: Vec<Duration>,
+/// What can be measured.
+trait Measured {
+    fn check(&self, table: &[u32]) -> Answer;
+    fn pass(&self, source: &[u32], target: &mut [u32], answers: &mut [u32]) -> Answer;
 }
 
-impl Timed {
-    fn check(table: &[u32], rounds: usize) -> Timed {
-        Timed::rounds(
-            rounds,
-            |program| {
-                let start = Instant::now();
-                black_box((program.check)(black_box(table)));
-                start.elapsed()
-            },
-            || {
-                let start = Instant::now();
-                black_box(read(black_box(table)));
-                start.elapsed()
-            },
-        )
+impl Measured for Program {
+    fn check(&self, table: &[u32]) -> Answer {
+        (self.check)(table)
     }
 
-    fn pass(source: &[u32], target: &[u32], rounds: usize) -> Timed {
-        let mut answers = vec![0; MOST_ROWS];
-        let mut changed = target.to_vec();
-        Timed::rounds(
-            rounds,
-            |program| {
-                changed.copy_from_slice(target);
-                let start = Instant::now();
-                black_box((program.pass)(
-                    black_box(source),
-                    black_box(&mut changed),
-                    0,
-                    black_box(&mut answers),
-                ));
-                start.elapsed()
-            },
-            || {
-                let start = Instant::now();
-                black_box((read(black_box(source)), read(black_box(target))));
-                start.elapsed()
-            },
-        )
+    fn pass(&self, source: &[u32], target: &mut [u32], answers: &mut [u32]) -> Answer {
+        (self.pass)(source, target, 0, answers)
+    }
+}
+
+impl Measured for Loaded {
+    fn check(&self, table: &[u32]) -> Answer {
+        self.check(table)
     }
 
-    /// Times each in turn; who comes first changes from round to round.
-    fn rounds(
-        rounds: usize,
-        mut call: impl FnMut(&Program) -> Duration,
-        mut reading: impl FnMut() -> Duration,
-    ) -> Timed {
-        let mut timed = Timed::default();
-        for round in 0..rounds {
-            if round % 2 == 0 {
-                timed.product.push(call(&PRODUCT));
-                timed.obvious.push(call(&OBVIOUS));
-            } else {
-                timed.obvious.push(call(&OBVIOUS));
-                timed.product.push(call(&PRODUCT));
-            }
-            timed.reading.push(reading());
-        }
-        timed
-    }
-
-    fn print(self, name: &str) {
-        let [product, obvious, reading] = [self.product, self.obvious, self.reading].map(middle);
-        println!(
-            "{name:28} {product:8.2} {obvious:8.2} {reading:8.2}   {:15.2} {:15.2}",
-            product / obvious,
-            product / reading
-        );
+    fn pass(&self, source: &[u32], target: &mut [u32], answers: &mut [u32]) -> Answer {
+        self.pass(source, target, 0, answers)
     }
 }
 
 /// Merely reads all words.
-#[inline(never)]
-fn read(table: &[u32]) -> u32 {
-    table.iter().fold(0, |sum, &word| sum ^ word)
+struct Reading;
+
+impl Measured for Reading {
+    fn check(&self, table: &[u32]) -> Answer {
+        Answer {
+            number: 0,
+            count: table.iter().fold(0, |sum, &word| sum ^ word),
+        }
+    }
+
+    fn pass(&self, source: &[u32], target: &mut [u32], _: &mut [u32]) -> Answer {
+        let counts = [source, target].map(|table| self.check(table).count);
+        Answer {
+            number: 0,
+            count: counts[0] ^ counts[1],
+        }
+    }
+}
+
+/// Times everything at a width and prints a line for each table and call, with the first against each of the others.
+fn print_all(width: Width, measured: &[(&str, &dyn Measured)], rounds: usize) {
+    println!(
+        "\n{:28} {}",
+        format!("{} columns", width.columns()),
+        header(measured)
+    );
+    let print = |name: String, middles: Vec<f64>| {
+        let times: String = middles.iter().map(|time| format!("{time:9.2}")).collect();
+        let ratios = middles[1..].iter().map(|time| middles[0] / time);
+        let ratios: String = ratios.map(|ratio| format!("{ratio:16.2}")).collect();
+        println!("{name:28} {times}  {ratios}");
+    };
+    for (name, source, target) in pairs(width) {
+        let check = |measured: &dyn Measured| {
+            let start = Instant::now();
+            black_box(measured.check(black_box(&source)));
+            start.elapsed()
+        };
+        print(format!("check, {name}"), middles(measured, rounds, check));
+        let mut answers = vec![0; MOST_ROWS];
+        let mut changed = target.clone();
+        let pass = |measured: &dyn Measured| {
+            changed.copy_from_slice(&target);
+            let (target, answers) = (black_box(&mut changed), black_box(&mut answers));
+            let start = Instant::now();
+            black_box(measured.pass(black_box(&source), target, answers));
+            start.elapsed()
+        };
+        print(format!("pass, {name}"), middles(measured, rounds, pass));
+    }
+}
+
+/// The names of what is measured, and of the first against the others.
+fn header(measured: &[(&str, &dyn Measured)]) -> String {
+    let names = measured.iter().map(|(name, _)| format!("{name:>9}"));
+    let first = measured[0].0;
+    let ratios = measured[1..]
+        .iter()
+        .map(|(name, _)| format!("{:>16}", format!("{first}/{name}")));
+    names.chain(["  ".to_owned()]).chain(ratios).collect()
+}
+
+/// Times each once in every round, in an order that changes from round to round. The middle times, in microseconds.
+fn middles(
+    measured: &[(&str, &dyn Measured)],
+    rounds: usize,
+    mut time: impl FnMut(&dyn Measured) -> Duration,
+) -> Vec<f64> {
+    let mut random = Random::new(4);
+    let mut order: Vec<usize> = (0..measured.len()).collect();
+    let mut times = vec![Vec::new(); measured.len()];
+    for _ in 0..rounds {
+        random.shuffle(&mut order);
+        for &who in &order {
+            times[who].push(time(measured[who].1));
+        }
+    }
+    times.into_iter().map(middle).collect()
 }
 
 /// The middle value, in microseconds.

@@ -1,20 +1,21 @@
 //! The table check.
 
 use super::times::{covers, empty, greatest, vector, Clock, Summary, Vector, Words};
-use super::times::{FOLDER, LIVE, NEVER, WIDTH};
+use super::times::{FLOOR, FOLDER, LIVE, NEVER};
 
 const MOST_ROWS: usize = 256;
 const MOST_LEVELS: u32 = 16;
 
 /// The clock and the rows of sound words, or the refusal's number.
-pub fn read(table: &[u32]) -> Result<(Clock, &[Words]), u32> {
-    let (head, rows) = table.split_first_chunk::<WIDTH>().ok_or(1u32)?;
-    let (rows, rest) = rows.as_chunks::<WIDTH>();
+pub fn read<const C: usize, const W: usize>(table: &[u32]) -> Result<(Clock, &[Words<W>]), u32> {
+    let (head, rows) = table.split_first_chunk::<W>().ok_or(1u32)?;
+    let (rows, rest) = rows.as_chunks::<W>();
     let head_is_right = rest.is_empty()
-        && head[0] < 8
+        && (head[0] as usize) < C
         && (1..=MOST_ROWS).contains(&rows.len())
         && head[2] as usize == rows.len()
-        && empty(&head[3..]);
+        && head[3] == if C == 16 { 16 } else { 0 }
+        && empty(&head[4..]);
     if !head_is_right {
         return Err(1);
     }
@@ -25,7 +26,7 @@ pub fn read(table: &[u32]) -> Result<(Clock, &[Words]), u32> {
     if rows[0][0] != FOLDER || rows[0][1] as usize != rows.len() {
         return Err(2);
     }
-    let mut reader = Reader { clock, sound: true };
+    let mut reader = Reader::<C> { clock, sound: true };
     reader.folder(rows, 1, clock.above())?;
     if reader.sound {
         Ok((clock, rows))
@@ -35,18 +36,23 @@ pub fn read(table: &[u32]) -> Result<(Clock, &[Words]), u32> {
 }
 
 /// Goes over the rows once: what breaks the order stops it, what breaks another rule is noted.
-struct Reader {
+struct Reader<const C: usize> {
     clock: Clock,
     sound: bool,
 }
 
-impl Reader {
+impl<const C: usize> Reader<C> {
     /// A folder with all its rows, on a level, beneath these floors.
-    fn folder(&mut self, rows: &[Words], level: u32, above: Vector) -> Result<(), u32> {
+    fn folder<const W: usize>(
+        &mut self,
+        rows: &[Words<W>],
+        level: u32,
+        above: Vector<C>,
+    ) -> Result<(), u32> {
         let row = &rows[0];
-        let floor = vector(row, 8);
+        let floor = vector(row, FLOOR);
         let above = greatest(above, floor);
-        let mut summary = Summary::EMPTY;
+        let mut summary = Summary::<C>::EMPTY;
         let mut next = 1;
         while next < rows.len() {
             if level == MOST_LEVELS {
@@ -76,26 +82,28 @@ impl Reader {
 
     /// A sheet beneath these floors.
     #[inline(always)]
-    fn sheet(&mut self, row: &Words, above: Vector) {
-        let floor = vector(row, 8);
+    fn sheet<const W: usize>(&mut self, row: &Words<W>, above: Vector<C>) {
+        let floor = vector(row, FLOOR);
         let known = greatest(above, floor);
         let events_are_right = match row[0] {
             NEVER => empty(&row[2..7]),
             LIVE => {
-                is_event(row, 2)
-                    && is_event(row, 4)
+                is_event::<C, W>(row, 2)
+                    && is_event::<C, W>(row, 4)
                     && covers(&known, row, 2)
                     && covers(&known, row, 4)
             }
-            _ => is_event(row, 2) && empty(&row[4..7]) && covers(&known, row, 2),
+            _ => is_event::<C, W>(row, 2) && empty(&row[4..7]) && covers(&known, row, 2),
         };
-        self.sound &=
-            events_are_right && row[7] == 0 && floor[self.clock.device] == 0 && empty(&row[16..]);
+        self.sound &= events_are_right
+            && row[7] == 0
+            && floor[self.clock.device] == 0
+            && empty(&row[FLOOR + C..]);
     }
 }
 
 /// Whether two words name an event.
 #[inline(always)]
-fn is_event(row: &Words, word: usize) -> bool {
-    row[word] < 8 && row[word + 1] > 0
+fn is_event<const C: usize, const W: usize>(row: &Words<W>, word: usize) -> bool {
+    (row[word] as usize) < C && row[word + 1] > 0
 }

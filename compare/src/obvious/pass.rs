@@ -2,15 +2,20 @@
 
 use super::check::read;
 use super::times::{covered, covers, greatest, put, vector, Summary, Vector, Words};
-use super::times::{FOLDER, LIVE, NEVER, REMOVED, WIDTH};
+use super::times::{FLOOR, FOLDER, LIVE, NEVER, REMOVED};
 
 const WALKED: u32 = 4;
 const PASSED_OVER: u32 = 5;
 
 /// A pass: the rows looked at, or the refusal's number.
-pub fn pass(source: &[u32], target: &mut [u32], row: u32, answers: &mut [u32]) -> Result<u32, u32> {
-    let (source_clock, a) = read(source)?;
-    let (target_clock, b) = read(target).map_err(|number| number + 10)?;
+pub fn pass<const C: usize, const W: usize>(
+    source: &[u32],
+    target: &mut [u32],
+    row: u32,
+    answers: &mut [u32],
+) -> Result<u32, u32> {
+    let (source_clock, a) = read::<C, W>(source)?;
+    let (target_clock, b) = read::<C, W>(target).map_err(|number| number + 10)?;
     if a.len() != b.len()
         || a.iter()
             .zip(b)
@@ -22,12 +27,12 @@ pub fn pass(source: &[u32], target: &mut [u32], row: u32, answers: &mut [u32]) -
         return Err(5);
     }
     if a.iter()
-        .any(|a| a[8 + target_clock.device] > target_clock.counter)
+        .any(|a| a[FLOOR + target_clock.device] > target_clock.counter)
     {
         return Err(6);
     }
     if b.iter()
-        .any(|b| b[8 + source_clock.device] > source_clock.counter)
+        .any(|b| b[FLOOR + source_clock.device] > source_clock.counter)
     {
         return Err(7);
     }
@@ -38,8 +43,8 @@ pub fn pass(source: &[u32], target: &mut [u32], row: u32, answers: &mut [u32]) -
     if answers.len() != b[row][1] as usize {
         return Err(9);
     }
-    let (b, _) = target[WIDTH..].as_chunks_mut::<WIDTH>();
-    let mut walk = Walk {
+    let (b, _) = target[W..].as_chunks_mut::<W>();
+    let mut walk = Walk::<C, W> {
         others: target_clock.others(),
         looked_at: 0,
     };
@@ -49,20 +54,20 @@ pub fn pass(source: &[u32], target: &mut [u32], row: u32, answers: &mut [u32]) -
 }
 
 /// A pass on its way.
-struct Walk {
+struct Walk<const C: usize, const W: usize> {
     /// All ones in the columns of the target's floors that can be raised.
-    others: Vector,
+    others: Vector<C>,
     looked_at: u32,
 }
 
-impl Walk {
+impl<const C: usize, const W: usize> Walk<C, W> {
     /// From a row down to that where the pass starts, the floors above being given.
     fn descend(
         &mut self,
-        a: &[Words],
-        b: &mut [Words],
+        a: &[Words<W>],
+        b: &mut [Words<W>],
         row: usize,
-        above: [Vector; 2],
+        above: [Vector<C>; 2],
         answers: &mut [u32],
     ) {
         if row == 0 {
@@ -81,33 +86,39 @@ impl Walk {
         let above = self.down(&a[0], &b[0], above);
         let (a, beneath) = (&a[child..end], &mut b[child..end]);
         self.descend(a, beneath, row - child, above, answers);
-        mend(b);
+        mend::<C, W>(b);
     }
 
     /// What is known beneath these two rows, or at them.
     #[inline(always)]
-    fn down(&self, a: &Words, b: &Words, above: [Vector; 2]) -> [Vector; 2] {
+    fn down(&self, a: &Words<W>, b: &Words<W>, above: [Vector<C>; 2]) -> [Vector<C>; 2] {
         [
-            greatest(above[0], vector(a, 8)),
-            greatest(above[1], vector(b, 8)),
+            greatest(above[0], vector(a, FLOOR)),
+            greatest(above[1], vector(b, FLOOR)),
         ]
     }
 
     /// Raises the target's floor at a row; gives the floor.
     #[inline(always)]
-    fn raise(&self, b: &mut Words, time: Vector) -> Vector {
-        let raised = greatest(vector(b, 8), time);
+    fn raise(&self, b: &mut Words<W>, time: Vector<C>) -> Vector<C> {
+        let raised = greatest(vector(b, FLOOR), time);
         let floor = std::array::from_fn(|column| raised[column] & self.others[column]);
-        put(b, 8, floor);
+        put(b, FLOOR, floor);
         floor
     }
 
     /// A folder with all beneath it: passed over, or walked.
-    fn folder(&mut self, a: &[Words], b: &mut [Words], above: [Vector; 2], answers: &mut [u32]) {
+    fn folder(
+        &mut self,
+        a: &[Words<W>],
+        b: &mut [Words<W>],
+        above: [Vector<C>; 2],
+        answers: &mut [u32],
+    ) {
         self.looked_at += 1;
         let above = self.down(&a[0], &b[0], above);
-        let of_a = Summary::of(&a[0]);
-        let of_b = Summary::of(&b[0]);
+        let of_a = Summary::<C>::of(&a[0]);
+        let of_b = Summary::<C>::of(&b[0]);
         let least = greatest(above[0], of_a.least);
         let is_level = least == greatest(above[0], of_a.most);
         if is_level && covered(of_a.newest, greatest(above[1], of_b.least)) {
@@ -115,12 +126,16 @@ impl Walk {
                 *answer = if row[0] == FOLDER { PASSED_OVER } else { 0 };
             }
             let floor = self.raise(&mut b[0], least);
-            put(&mut b[0], 24, greatest(floor, of_b.least));
-            put(&mut b[0], 32, greatest(floor, of_b.most));
+            let raised = Summary {
+                least: greatest(floor, of_b.least),
+                most: greatest(floor, of_b.most),
+                ..of_b
+            };
+            raised.put_times(&mut b[0]);
             return;
         }
         answers[0] = WALKED;
-        let mut summary = Summary::EMPTY;
+        let mut summary = Summary::<C>::EMPTY;
         let mut child = 1;
         while child < b.len() {
             let end = child + b[child][1] as usize;
@@ -138,7 +153,7 @@ impl Walk {
 
     /// One sheet: gives its answer.
     #[inline(always)]
-    fn sheet(&mut self, a: &Words, b: &mut Words, above: [Vector; 2]) -> u32 {
+    fn sheet(&mut self, a: &Words<W>, b: &mut Words<W>, above: [Vector<C>; 2]) -> u32 {
         self.looked_at += 1;
         let [known_a, known_b] = self.down(a, b, above);
         let (answer, taken) = match (a[0], b[0]) {
@@ -163,8 +178,8 @@ impl Walk {
 }
 
 /// Works out the summary of a folder, those beneath it being right.
-fn mend(rows: &mut [Words]) {
-    let mut summary = Summary::EMPTY;
+fn mend<const C: usize, const W: usize>(rows: &mut [Words<W>]) {
+    let mut summary = Summary::<C>::EMPTY;
     let mut next = 1;
     while next < rows.len() {
         let child = &rows[next];

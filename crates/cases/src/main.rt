@@ -1,10 +1,11 @@
-// The limits, the paper's marked sheets, the showings and the settlings, run and printed.
+// The limits, the paper's marked sheets, the showings, the settlings and the two widths, run and printed.
 mod limits;
 mod line;
 mod marked;
 mod settlings;
 mod showings;
 mod step;
+mod widths;
 
 use settlings::settled;
 use step::CHANGE;
@@ -16,6 +17,7 @@ use step::THEIRS;
 
 fn main() {
     limits::rows();
+    limits::rows_beyond();
     limits::levels();
     limits::counter();
     marked::abcde();
@@ -31,4 +33,8 @@ fn main() {
     settled(NEW, CHANGE, 702, 3);
     settled(REMOVED, REMOVE, 0, 3);
     settlings::refused();
+    widths::made();
+    widths::widened();
+    widths::apart();
+    widths::passed();
 }

@@ -20,13 +20,15 @@ use Rattle.paper.specs.Walk.{Two, Pair, zip, left, right, raised, ruleAt, over,
 use Rattle.paper.specs.Words.{Table, tableOf, written}
 use Rattle.paper.specs.Check.{checkOf}
 use Rattle.paper.specs.Good.{rooted, GoodSheet, Good, GoodTable}
-use Rattle.paper.specs.Calls.{eventNamed, fitsSheet, newStamp, ticked, eventRefused, eventSheet, eventDone, eventOf, twoRefused, pairAt, passRefused, passDone, passOf, rulingHere, choiceNamed, conflicts, settleRefused, settleSheet, settleDone, settleOf}
+use Rattle.paper.specs.Calls.{Changed, Passed, eventNamed, fitsSheet, newStamp, ticked, eventRefused, eventSheet, eventDone, eventOf, twoRefused, pairAt, passRefused, passDone, passOf, rulingHere, choiceNamed, conflicts, settleRefused, settleSheet, settleDone, settleOf}
 use Rattle.paper.proofs.Calls
 use Rattle.paper.proofs.Calls.{event-number, pass-number, settle-number, event-done, pass-done, settle-done, Accepted, two-accepted}
 use Rattle.paper.proofs.Refusals.{first-both, when-none, none-so}
 use Rattle.paper.proofs.Tables.{check-facts, checked-good}
 use Rattle.paper.proofs.Forests.{mapped-subtree, mapped-here, shape, shape-size, shape-levels, shape-rooted, graft-shape, shaped-shape, zip-left, zip-right, sheet-alone}
 use Rattle.history.proofs.Agree.{Opposed, opposed}
+use Rattle.paper.specs.Widths.{widthOf, tableAny, passAny, settleAny}
+use Rattle.paper.proofs.Widths.{pass-any, settle-any}
 use Rattle.history.proofs.Cells.{zeros-greatest}
 use Rattle.history.proofs.Summaries.{later-sheet}
 use Rattle.paper.proofs.Walks.{good-subtree, walk-shape}
@@ -116,24 +118,26 @@ module _ (w : ℕ) (a b : Table) (row : ℕ) (g : Two-good w a b row) where
           (walk-good w (a .clock) (b .clock) (g .source .device) (g .target .device) (g .apart) (pairAt a b row) (above (a .tree) row) (above (b .tree) row)
           (source-good w a b row g) (target-good w a b row g) (source-early w a b row g) (above-narrow w a b row g) (above-early w a b row g)))
 
--- a pass that is accepted
-pub record Pass-accepted (w : ℕ) (s t : List ℕ) (row : ℕ) (list : List ℕ) : Type 0 where
-  pub two : Two-good w (tableOf w s) (tableOf w t) row
-  pub words : written w (tableOf w t) ≡ t
-  pub long : length list ≡ size (subtree (tableOf w t .tree) row)
-  pub done : passOf w s t row list ≡ record {
+-- A PASS that is accepted, from the table a to the table b, at the one width w of their words
+pub record Pass-accepted (w : ℕ) (a b : Table) (row : ℕ) (list : List ℕ) (out : Passed) : Type 0 where
+  pub two : Two-good w a b row
+  pub long : length list ≡ size (subtree (b .tree) row)
+  pub done : out ≡ record {
     number = 0;
-    count = looked w (tableOf w s .clock) (tableOf w t .clock) (pairAt (tableOf w s) (tableOf w t) row) (above (tableOf w s .tree) row) (above (tableOf w t .tree) row);
-    target = written w (passDone w (tableOf w s) (tableOf w t) row);
-    answers = answers w (tableOf w s .clock) (tableOf w t .clock) (pairAt (tableOf w s) (tableOf w t) row) (above (tableOf w s .tree) row) (above (tableOf w t .tree) row);
+    count = looked w (a .clock) (b .clock) (pairAt a b row) (above (a .tree) row) (above (b .tree) row);
+    target = written w (passDone w a b row);
+    answers = answers w (a .clock) (b .clock) (pairAt a b row) (above (a .tree) row) (above (b .tree) row);
   }
 
 -- the number 0 says so
-pub pass-accepted : (w : ℕ) (s t : List ℕ) (row : ℕ) (list : List ℕ) → passOf w s t row list .number ≡ 0 → Pass-accepted w s t row list
-pass-accepted w s t row list e =
-    let r : passRefused w s t row list ≡ 0 = sym (pass-number w s t row list) ∙ e in
+pub pass-accepted : (s t : List ℕ) (row : ℕ) (list : List ℕ) → passAny s t row list .number ≡ 0 → Pass-accepted (widthOf t) (tableAny s) (tableAny t) row list (passAny s t row list)
+pass-accepted s t row list e =
+    let w = widthOf t in
+    let x = pass-any s t row list e in
+    let r : passRefused w s t row list ≡ 0 = sym (pass-number w s t row list) ∙ sym (ap (λ (o : Passed). o .number) (x .same)) ∙ e in
     let g = Calls.pass-accepted w s t row list r in
-    record { two = two-good w s t row (g .0); words = g .0 .targetWords; long = g .1; done = pass-done w s t row list r }
+    subst (λ v. Pass-accepted w (tableOf v s) (tableAny t) row list (passAny s t row list)) (sym (x .two .one))
+    (record { two = two-good w s t row (g .0); long = g .1; done = x .same ∙ pass-done w s t row list r })
 
 -- AN EVENT
 pub record Event-accepted (w : ℕ) (t : List ℕ) (row event mark : ℕ) : Type 0 where
@@ -184,16 +188,16 @@ module _ (w : ℕ) (b : Table) (row : ℕ) (e : Event) (m : ℕ) (g : GoodTable 
           good-graft w (ticked (b .clock)) (b .tree) row (sheet (eventSheet e (newStamp (b .clock)) m s) end) zeros (tick-good w (b .clock) (g .device) (b .tree) zeros (g .rows))
           (event-good w (b .clock) (g .device) e m (greatest zeros (above (b .tree) row)) s q here, tt)
 
--- A SETTLING
-pub record Settle-accepted (w : ℕ) (s t : List ℕ) (row choice mark : ℕ) : Type 0 where
-  pub two : Two-good w (tableOf w s) (tableOf w t) row
+-- A SETTLING that is accepted
+pub record Settle-accepted (w : ℕ) (a b : Table) (row choice mark : ℕ) (out : Changed) : Type 0 where
+  pub two : Two-good w a b row
   pub sheets : Two Sheet
-  pub alone : pairAt (tableOf w s) (tableOf w t) row ≡ sheet sheets end
-  pub conflict : ruleAt (tableOf w s .clock) (tableOf w t .clock) (above (tableOf w s .tree) row) (above (tableOf w t .tree) row) sheets ≡ Conflict
-  pub done : settleOf w s t row choice mark ≡ record {
+  pub alone : pairAt a b row ≡ sheet sheets end
+  pub conflict : ruleAt (a .clock) (b .clock) (above (a .tree) row) (above (b .tree) row) sheets ≡ Conflict
+  pub done : out ≡ record {
     number = 0;
-    count = cond (stamps (choiceNamed choice)) (suc (tableOf w t .clock .counter)) 0;
-    table = written w (settleDone (tableOf w s) (tableOf w t) row (choiceNamed choice) mark);
+    count = cond (stamps (choiceNamed choice)) (suc (b .clock .counter)) 0;
+    table = written w (settleDone a b row (choiceNamed choice) mark);
   }
 
 conflicts-true : (o : Option Ruling) → conflicts o ≡ true → o ≡ some Conflict
@@ -210,23 +214,28 @@ map-some f none y e = let z : _≡_ {A = ℕ} 0 1 = cc in absurd (omega arith)
 map-some f (some x) y e = (x, refl, cc)
 
 -- the number 0 says so
-pub settle-accepted : (w : ℕ) (s t : List ℕ) (row choice mark : ℕ) → settleOf w s t row choice mark .number ≡ 0 → Settle-accepted w s t row choice mark
+pub settle-accepted : (s t : List ℕ) (row choice mark : ℕ) → settleAny s t row choice mark .number ≡ 0 → Settle-accepted (widthOf t) (tableAny s) (tableAny t) row choice mark (settleAny s t row choice mark)
 unfolding settleRefused rulingHere
-settle-accepted w s t row choice mark e =
-    let r : settleRefused w s t row choice ≡ 0 = sym (settle-number w s t row choice mark) ∙ e in
+settle-accepted s t row choice mark e =
+    let w = widthOf t in
+    let h = settle-any s t row choice mark e in
+    let a = tableOf w s in
+    let b = tableOf w t in
+    let r : settleRefused w s t row choice ≡ 0 = sym (settle-number w s t row choice mark) ∙ sym (ap (λ (o : Changed). o .number) (h .same)) ∙ e in
     let x = first-both (twoRefused w s t row) _ r in
     let y = first-both _ _ (x .1) in
     let z = first-both _ _ (y .1) in
     let u = first-both _ _ (z .1) in
-    let c = conflicts-true (rulingHere (tableOf w s) (tableOf w t) row) (none-so _ 13 (u .0)) in
-    let o = map-some (ruleAt (tableOf w s .clock) (tableOf w t .clock) (above (tableOf w s .tree) row) (above (tableOf w t .tree) row)) (sheetHere (pairAt (tableOf w s) (tableOf w t) row)) Conflict (sym (mapped-here _ _ (pairAt (tableOf w s) (tableOf w t) row)) ∙ c) in
-    record {
+    let c = conflicts-true (rulingHere a b row) (none-so _ 13 (u .0)) in
+    let o = map-some (ruleAt (a .clock) (b .clock) (above (a .tree) row) (above (b .tree) row)) (sheetHere (pairAt a b row)) Conflict (sym (mapped-here _ _ (pairAt a b row)) ∙ c) in
+    subst (λ v. Settle-accepted w (tableOf v s) (tableAny t) row choice mark (settleAny s t row choice mark)) (sym (h .two .one))
+    (record {
       two = two-good w s t row (two-accepted w s t row (x .0));
       sheets = o .0;
-      alone = sheet-alone (zip (tableOf w s .tree) (tableOf w t .tree)) row (o .0) (o .1);
+      alone = sheet-alone (zip (a .tree) (b .tree)) row (o .0) (o .1);
       conflict = o .2;
-      done = settle-done w s t row choice mark r;
-    }
+      done = h .same ∙ settle-done w s t row choice mark r;
+    })
 
 module _ (w : ℕ) (a b : Table) (row : ℕ) (c : Choice) (m : ℕ) (g : Two-good w a b row) (x : Two Sheet) (alone : pairAt a b row ≡ sheet x end) where
   -- the one sheet, on either side

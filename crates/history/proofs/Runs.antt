@@ -1,9 +1,10 @@
--- Every accepted call of a run keeps the invariant: a pass, an event, a settling.
+-- Every accepted call of a run keeps the invariant: a pass, an event, a settling, a widening.
 use Prim.{Unit, tt}
 use Prim.Native.Nat.{ℕ, suc, _+_, _-_, _≤_, _<_, max}
 use mathlib.Core.Path.{_≡_, refl, sym, ap, ap₂, _∙_, subst, fun-ext}
 use mathlib.Core.Bool.{Bool, true, false, cond}
 use mathlib.Core.List.{List}
+use mathlib.Core.Logic.{inr}
 use mathlib.Core.Option.{Option·map}
 use native.Mathlib.Omega.{arith}
 use lib.Dec.{leb, ltb, eqb}
@@ -16,12 +17,14 @@ use Rattle.paper.specs.Rules.{Row, Cell, ruling}
 use Rattle.paper.specs.Acts.{fits, eventRow, Choice, stamps, settleRow}
 use Rattle.paper.specs.Tree.{Forest, end, sheet, subtree, above}
 use Rattle.paper.specs.Walk.{cell, ruleAt, walk}
-use Rattle.paper.specs.Words.{Table, tableOf, written}
+use Rattle.paper.specs.Words.{Table, written}
+use Rattle.paper.specs.Widths.{Width, widthOf, tableAny, widenOf}
+use Rattle.paper.proofs.Widths.{width-either, good-wider, Widened, widened}
 use Rattle.paper.specs.Good.{GoodTable}
-use Rattle.paper.specs.Calls.{newStamp, ticked, eventNamed, eventSheet, eventDone, pairAt, passDone, choiceNamed, settleSheet, settleDone}
+use Rattle.paper.specs.Calls.{Changed, Passed, newStamp, ticked, eventNamed, eventSheet, eventDone, pairAt, passDone, choiceNamed, settleSheet, settleDone}
 use Rattle.history.specs.Knowledge.{vectors, sets, passed}
 use Rattle.history.specs.World.{World, next, tick, put, eventful, passing, settling}
-use Rattle.history.specs.Run.{State, replaced, within}
+use Rattle.history.specs.Run.{State, replaced, within, devices}
 use Rattle.history.specs.Look.{cellAt, both}
 use Rattle.history.proofs.Fits.{rulings}
 use Rattle.history.proofs.Agree.{event-inv, pass-inv, settle-inv}
@@ -30,24 +33,24 @@ use Rattle.history.proofs.Accepted.{Two-good, pair-left, pair-right, Pa
 use Rattle.history.proofs.Effects.{reset, pass-inside, pass-before, pass-after, event-here, event-there, one-before, counted, settle-here, settle-there}
 use Rattle.history.proofs.Kept.{put-there, put-here, put-away, tick-there, tick-here, Holds, holds-map, holds-both, Kept, there, changed, held}
 
-module _ (w : ℕ) (p : Forest (Unit {0}) (Unit {0})) (s : State) (k : Kept w p s) where
+module _ (p : Forest (Unit {0}) (Unit {0})) (s : State) (k : Kept p s) where
   -- the devices' tables and counters
   abbrev T : ℕ → Table
-  T d = tableOf w (s .tables d)
+  T d = tableAny (s .tables d)
 
   abbrev counter : Vec
-  counter x = tableOf w (s .tables x) .clock .counter
+  counter x = tableAny (s .tables x) .clock .counter
 
   -- A PASS
-  module _ (a b row : ℕ) (list : List ℕ) (acc : Pass-accepted w (s .tables a) (s .tables b) row list) where
+  module _ (w : ℕ) (wide : Width w) (a b row : ℕ) (list : List ℕ) (out : Passed) (acc : Pass-accepted w (T a) (T b) row list out) where
     g : Two-good w (T a) (T b) row
     g = acc .two
 
-    aw : a < w
-    aw = there w p s k a (acc .two .source)
+    aw : a < devices
+    aw = there p s k w a (acc .two .source)
 
-    bw : b < w
-    bw = there w p s k b (acc .two .target)
+    bw : b < devices
+    bw = there p s k w b (acc .two .target)
 
     pass-early : Early counter (passDone w (T a) (T b) row .tree) zeros
     unfolding passDone
@@ -84,9 +87,9 @@ module _ (w : ℕ) (p : Forest (Unit {0}) (Unit {0})) (s : State) (k : Kept w p 
             subst (Holds (cellAt (passDone w (T a) (T b) row) y)) (sym (to false (rw e)))
             (subst (λ o. Holds o (k .flat .cell b y)) (sym (pass-before w (T a) (T b) row g y (leb-false row y e))) (k .holds b y))
 
-    pub pass-kept : Kept w p (record { tables = replaced (s .tables) b (written w (passDone w (T a) (T b) row)); past = passing sets (s .past) a b (within row (length list)) })
+    pub pass-kept : Kept p (record { tables = replaced (s .tables) b (written w (passDone w (T a) (T b) row)); past = passing sets (s .past) a b (within row (length list)) })
     pass-kept =
-        changed w p s k b bw (passDone w (T a) (T b) row) (passed-good w (T a) (T b) row g) (same-device ∙ k .device b bw) (pass-shape w (T a) (T b) row g ∙ k .shapes b bw) (omega (arith, same-count)) pass-early
+        changed p s k w wide b bw (passDone w (T a) (T b) row) (passed-good w (T a) (T b) row g) (same-device ∙ k .device b bw) (pass-shape w (T a) (T b) row g ∙ k .shapes b bw) (omega (arith, same-count)) pass-early
         (passing vectors (k .flat) a b (within row (length list))) _ (count-same b ∙ k .counts b ∙ sym same-count) (λ x e. count-same x) pass-holds (λ x y e. there-same x y e) (pass-inv (k .inv) a b (within row (length list)))
       where
         same-device : passDone w (T a) (T b) row .clock .device ≡ T b .clock .device
@@ -102,9 +105,15 @@ module _ (w : ℕ) (p : Forest (Unit {0}) (Unit {0})) (s : State) (k : Kept w p 
         there-same x y e = unfold passing in (put-there vectors (k .flat) b (within row (length list)) _ x y e)
 
   -- AN EVENT
-  module _ (d row e mark : ℕ) (acc : Event-accepted w (s .tables d) row e mark) where
-    dw : d < w
-    dw = there w p s k d (acc .good)
+  module _ (d row e mark : ℕ) (acc : Event-accepted (widthOf (s .tables d)) (s .tables d) row e mark) where
+    abbrev w : ℕ
+    w = widthOf (s .tables d)
+
+    wide : Width w
+    wide = width-either (s .tables d)
+
+    dw : d < devices
+    dw = there p s k w d (acc .good)
 
     gd : GoodTable w (T d)
     gd = acc .good
@@ -130,7 +139,7 @@ module _ (w : ℕ) (p : Forest (Unit {0}) (Unit {0})) (s : State) (k : Kept w p 
 
     -- what stands at the sheet
     before : cell (T d .clock) (above (T d .tree) row) (acc .sheet) ≡ k .flat .cell d row
-    before = held w p s k d row _ (one-before (T d) row (acc .sheet) (acc .alone))
+    before = held p s k d row _ (one-before (T d) row (acc .sheet) (acc .alone))
 
     event-holds : (y : ℕ) → Holds (cellAt (eventDone (T d) row (eventNamed e) mark) y) (eventful vectors (k .flat) d row (eventNamed e) mark .cell d y)
     event-holds y = go (eqb y row) refl
@@ -168,9 +177,9 @@ module _ (w : ℕ) (p : Forest (Unit {0}) (Unit {0})) (s : State) (k : Kept w p 
     unfolding eventful put tick
     event-count x = refl
 
-    pub event-kept : Kept w p (record { tables = replaced (s .tables) d (written w (eventDone (T d) row (eventNamed e) mark)); past = eventful sets (s .past) d row (eventNamed e) mark })
+    pub event-kept : Kept p (record { tables = replaced (s .tables) d (written w (eventDone (T d) row (eventNamed e) mark)); past = eventful sets (s .past) d row (eventNamed e) mark })
     event-kept =
-        changed w p s k d dw (eventDone (T d) row (eventNamed e) mark) (event-table-good w (T d) row (eventNamed e) mark gd (acc .sheet) (acc .alone) (acc .fit)) (same-device ∙ k .device d dw)
+        changed p s k w wide d dw (eventDone (T d) row (eventNamed e) mark) (event-table-good w (T d) row (eventNamed e) mark gd (acc .sheet) (acc .alone) (acc .fit)) (same-device ∙ k .device d dw)
         (event-shape w (T d) row (eventNamed e) mark gd (acc .sheet) (acc .alone) ∙ k .shapes d dw) (omega (arith, same-count)) event-early
         (eventful vectors (k .flat) d row (eventNamed e) mark) _ (event-count d ∙ rw (eq-eqb d d refl) (ap suc (k .counts d) ∙ sym same-count)) (λ x q. event-count x ∙ rw q) event-holds there-same
         (event-inv (k .inv) d row (eventNamed e) mark fits-past)
@@ -185,18 +194,18 @@ module _ (w : ℕ) (p : Forest (Unit {0}) (Unit {0})) (s : State) (k : Kept w p 
         there-same x y q = unfold eventful in (put-there vectors (tick vectors (k .flat) d row) d (λ y. eqb y row) _ x y q ∙ tick-there vectors (k .flat) d row x y q)
 
   -- A SETTLING
-  module _ (a b row ch mark : ℕ) (acc : Settle-accepted w (s .tables a) (s .tables b) row ch mark) where
+  module _ (w : ℕ) (wide : Width w) (a b row ch mark : ℕ) (out : Changed) (acc : Settle-accepted w (T a) (T b) row ch mark out) where
     abbrev c : Choice
     c = choiceNamed ch
 
     g₂ : Two-good w (T a) (T b) row
     g₂ = acc .two
 
-    aw₂ : a < w
-    aw₂ = there w p s k a (acc .two .source)
+    aw₂ : a < devices
+    aw₂ = there p s k w a (acc .two .source)
 
-    bw₂ : b < w
-    bw₂ = there w p s k b (acc .two .target)
+    bw₂ : b < devices
+    bw₂ = there p s k w b (acc .two .target)
 
     -- two devices
     a-not-b : eqb a b ≡ false
@@ -235,10 +244,10 @@ module _ (w : ℕ) (p : Forest (Unit {0}) (Unit {0})) (s : State) (k : Kept w p 
         go false = sym (own-column y)
 
     before-a : cell (T a .clock) (above (T a .tree) row) (acc .sheets .a) ≡ k .flat .cell a row
-    before-a = held w p s k a row _ (one-before (T a) row (acc .sheets .a) (alone-left w (T a) (T b) row c mark g₂ (acc .sheets) (acc .alone)))
+    before-a = held p s k a row _ (one-before (T a) row (acc .sheets .a) (alone-left w (T a) (T b) row c mark g₂ (acc .sheets) (acc .alone)))
 
     before-b : cell (T b .clock) (above (T b .tree) row) (acc .sheets .b) ≡ k .flat .cell b row
-    before-b = held w p s k b row _ (one-before (T b) row (acc .sheets .b) (alone-right w (T a) (T b) row c mark g₂ (acc .sheets) (acc .alone)))
+    before-b = held p s k b row _ (one-before (T b) row (acc .sheets .b) (alone-right w (T a) (T b) row c mark g₂ (acc .sheets) (acc .alone)))
 
     settle-holds : (y : ℕ) → Holds (cellAt (settleDone (T a) (T b) row c mark) y) (settling vectors (k .flat) a b row c mark .cell b y)
     unfolding settling
@@ -287,9 +296,9 @@ module _ (w : ℕ) (p : Forest (Unit {0}) (Unit {0})) (s : State) (k : Kept w p 
     unfolding settling put
     settle-count x = refl
 
-    pub settle-kept : Kept w p (record { tables = replaced (s .tables) b (written w (settleDone (T a) (T b) row c mark)); past = settling sets (s .past) a b row c mark })
+    pub settle-kept : Kept p (record { tables = replaced (s .tables) b (written w (settleDone (T a) (T b) row c mark)); past = settling sets (s .past) a b row c mark })
     settle-kept =
-        changed w p s k b bw₂ (settleDone (T a) (T b) row c mark) (settle-table-good w (T a) (T b) row c mark g₂ (acc .sheets) (acc .alone) (acc .conflict)) (same-device ∙ k .device b bw₂)
+        changed p s k w wide b bw₂ (settleDone (T a) (T b) row c mark) (settle-table-good w (T a) (T b) row c mark g₂ (acc .sheets) (acc .alone) (acc .conflict)) (same-device ∙ k .device b bw₂)
         (settle-shape w (T a) (T b) row c mark g₂ (acc .sheets) (acc .alone) ∙ k .shapes b bw₂) grows settle-early
         (settling vectors (k .flat) a b row c mark) _ (settle-count b ∙ count-b) (λ x q. settle-count x ∙ count-x x q (stamps c)) settle-holds there-same
         (settle-inv (k .inv) a b row c mark conflict-past)
@@ -332,3 +341,16 @@ module _ (w : ℕ) (p : Forest (Unit {0}) (Unit {0})) (s : State) (k : Kept w p 
 
         there-same : (x y : ℕ) → eqb x b ≡ false → settling vectors (k .flat) a b row c mark .cell x y ≡ k .flat .cell x y
         there-same x y q = unfold settling in (put-there vectors moved b (λ y. eqb y row) _ x y q ∙ moved-x x y q (stamps c))
+
+  -- A WIDENING: the table is the same
+  module _ (d : ℕ) (wider : List ℕ) (e : widenOf (s .tables d) wider .number ≡ 0) where
+    x : Widened (s .tables d) wider
+    x = widened (s .tables d) wider e
+
+    dw₃ : d < devices
+    dw₃ = there p s k 8 d (x .good)
+
+    pub widen-kept : Kept p (record { tables = replaced (s .tables) d (written 16 (T d)); past = s .past })
+    widen-kept =
+        changed p s k 16 (inr refl) d dw₃ (T d) (good-wider 8 16 (omega arith) (T d) (x .good)) (k .device d dw₃) (k .shapes d dw₃) (omega arith) (k .early d dw₃)
+        (k .flat) (s .past) (k .counts d) (λ x e. refl) (λ y. k .holds d y) (λ x y e. refl) (k .inv)

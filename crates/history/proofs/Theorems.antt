@@ -1,142 +1,189 @@
--- THE THEOREMS. They are about the paper's definitions of the calls, on words, with no axiom and no hypothesis but those
--- that stand in the statements. w is the number of devices, and of columns of a vector: the paper's is 8.
+-- THE THEOREMS. They are about the paper's definitions of the calls, on words of either width, with no axiom and no
+-- hypothesis but those that stand in the statements.
 -- Both directions: every statement about a source a and a target b is for any a and b, so it holds whichever of two devices
 -- is the source. Nothing more is to be shown for a pass the other way.
 use Prim.Native.Nat.{ℕ, _+_, _-_, _*_, _≤_, _<_}
-use mathlib.Core.Path.{_≡_}
+use mathlib.Core.Path.{_≡_, sym, ap, _∙_, subst}
 use mathlib.Core.Bool.{true, false, not, _||_, cond}
 use mathlib.Core.List.{List}
 use mathlib.Core.Option.{some}
 use mathlib.Core.Logic.{_⊎_, _↔_}
-use lib.Dec.{leb}
+use lib.Dec.{leb, eqb}
 use lib.ListN.{length, getD, take}
 use Rattle.paper.specs.declared.Ruling.the-variants.{Conflict}
 use Rattle.paper.specs.Columns.{Vec, covers}
 use Rattle.paper.specs.Rules.{Cell, ruling, numberOf}
 use Rattle.paper.specs.Tree.{size, levels, subtree, sheetHere}
-use Rattle.paper.specs.Walk.{answers}
-use Rattle.paper.specs.Words.{wide, tableOf}
+use Rattle.paper.specs.Words.{wide, Table, tableOf}
 use Rattle.paper.specs.Refusals.{when}
 use Rattle.paper.specs.Check.{checkOf}
-use Rattle.paper.specs.Calls.{isFolder, newOf, eventOf, twoRefused, passOf, settleOf}
+use Rattle.paper.specs.Calls.{Passed, isFolder, twoRefused, passDone}
+use Rattle.paper.specs.Widths.{widthOf, tableAny, checkAny, newAny, widenOf, eventAny, twoWidths, passAny, settleAny}
+use Rattle.paper.proofs.Tables.{check-facts, checked-written}
+use Rattle.paper.proofs.Widths.{width-either, width-written, widened, widen-same, pass-any}
 use Rattle.paper.proofs.Forests.{shape}
 use Rattle.history.specs.Knowledge.{vectors, sets, passed}
-use Rattle.history.specs.Run.{Step, State, within, Makes, ran, begun}
+use Rattle.history.specs.Run.{Step, State, within, devices, Makes, ran, begun}
 use Rattle.history.specs.Look.{cellAt, both, overAt, beneathFive, tally, levelAt, unheard, widest}
 use Rattle.history.proofs.Bridge.{three}
 use Rattle.history.proofs.Accepted.{pass-accepted}
-use Rattle.history.proofs.New.{planRows, new-accepted}
+use Rattle.history.proofs.New.{planRows}
 use Rattle.history.proofs.Kept.{Kept}
-use Rattle.history.proofs.Plans.{kept-two, kept-pass, kept-said}
-use Rattle.history.proofs.OnWords.{pass-long, pass-number-at, pass-cell, pass-away, pass-sheets, pass-clock, pass-head, pass-sound, pass-folder, pass-empty, pass-looked, pass-few, event-sound, settle-sound}
+use Rattle.history.proofs.Plans.{kept-widths, kept-two, kept-pass, kept-apart, kept-said}
+use Rattle.history.proofs.OnWords.{pass-long, pass-number-at, pass-cell, pass-away, pass-sheets, pass-clock, pass-head, pass-sound, pass-folder, pass-empty, pass-looked, pass-few, new-sound, event-sound, settle-sound}
 use Rattle.history.proofs.Always.{begun-kept, run-kept}
 
 -- the invariant after a run, for the proofs of 1 and 2
-kept : (w : ℕ) (plan : List ℕ) (lent : ℕ → List ℕ) → Makes w plan lent → (steps : List Step) → Kept w (shape (planRows w plan)) (ran w plan lent steps)
-kept w plan lent makes steps = run-kept w (shape (planRows w plan)) (begun w plan lent) steps (begun-kept w plan lent makes)
+kept : (columns : ℕ → ℕ) (plan : List ℕ) (lent : ℕ → List ℕ) → Makes columns plan lent → (steps : List Step) → Kept (shape (planRows 16 plan)) (ran columns plan lent steps)
+kept columns plan lent makes steps = run-kept (shape (planRows 16 plan)) (begun columns plan lent) steps (begun-kept columns plan lent makes)
 
 -- 1. DEMAND 3. After any run, for any two devices a and b and any row: if the pass from a to b at that row is accepted, then
 -- at each row of the subtree that is a sheet (a zero of the plan), beneath folders that were passed over too, the number in
 -- the answer list is the number of the history's ruling; and the list says 3 there exactly when the history says conflict.
-pub record Demand-3 (w : ℕ) (plan : List ℕ) (s : State) (a b row : ℕ) (list : List ℕ) : Type 0 where
+-- The devices are sixteen, each with eight columns (0 to 7 only) or sixteen; a narrow table may be widened on the way.
+pub record Demand-3 (plan : List ℕ) (s : State) (a b row : ℕ) (list : List ℕ) : Type 0 where
   pub said : (j : ℕ) → j < length list → getD plan (row + j) 1 ≡ 0
-      → getD (passOf w (s .tables a) (s .tables b) row list .answers) j 0 ≡ numberOf (ruling (sets .knows) (s .past .cell a (row + j)) (s .past .cell b (row + j)))
+      → getD (passAny (s .tables a) (s .tables b) row list .answers) j 0 ≡ numberOf (ruling (sets .knows) (s .past .cell a (row + j)) (s .past .cell b (row + j)))
   pub conflict : (j : ℕ) → j < length list → getD plan (row + j) 1 ≡ 0
-      → (getD (passOf w (s .tables a) (s .tables b) row list .answers) j 0 ≡ 3) ↔ (ruling (sets .knows) (s .past .cell a (row + j)) (s .past .cell b (row + j)) ≡ Conflict)
+      → (getD (passAny (s .tables a) (s .tables b) row list .answers) j 0 ≡ 3) ↔ (ruling (sets .knows) (s .past .cell a (row + j)) (s .past .cell b (row + j)) ≡ Conflict)
 
-pub demand-3 : (w : ℕ) (plan : List ℕ) (lent : ℕ → List ℕ) → Makes w plan lent → (steps : List Step) (a b row : ℕ) (list : List ℕ)
-    → passOf w (ran w plan lent steps .tables a) (ran w plan lent steps .tables b) row list .number ≡ 0
-    → Demand-3 w plan (ran w plan lent steps) a b row list
-demand-3 w plan lent makes steps a b row list e =
-    let said = kept-said w plan lent makes (ran w plan lent steps) (kept w plan lent makes steps) a b row list e in
+pub demand-3 : (columns : ℕ → ℕ) (plan : List ℕ) (lent : ℕ → List ℕ) → Makes columns plan lent → (steps : List Step) (a b row : ℕ) (list : List ℕ)
+    → passAny (ran columns plan lent steps .tables a) (ran columns plan lent steps .tables b) row list .number ≡ 0
+    → Demand-3 plan (ran columns plan lent steps) a b row list
+demand-3 columns plan lent makes steps a b row list e =
+    let said = kept-said columns plan lent makes (ran columns plan lent steps) (kept columns plan lent makes steps) a b row list e in
     record { said = said; conflict = λ j l z. three _ _ (said j l z) }
 
--- 2. NEVER: in a run no call on the tables of two different devices is refused for them but by 8, so 6 and 7 never occur;
--- a pass between them is refused by 8 or 9 alone; and every table is sound.
-pub record Never (w : ℕ) (plan : List ℕ) (s : State) : Type 0 where
-  pub two : (a b row : ℕ) → a < w → b < w → (a ≡ b → ⊥) → twoRefused w (s .tables a) (s .tables b) row ≡ when (leb (length plan) row) 8
-  pub pass : (a b row : ℕ) (list : List ℕ) → a < w → b < w → (a ≡ b → ⊥)
-      → (passOf w (s .tables a) (s .tables b) row list .number ≡ 0) ⊎ ((passOf w (s .tables a) (s .tables b) row list .number ≡ 8) ⊎ (passOf w (s .tables a) (s .tables b) row list .number ≡ 9))
-  pub sound : (d : ℕ) → d < w → checkOf w (s .tables d) ≡ 0
+-- 2. NEVER: in a run no call on the tables of two different devices is refused for them but by 19, exactly where their widths
+-- differ, and else by 8; so 6 and 7 never occur. A pass between tables of one width is refused by 8 or 9 alone, one between
+-- tables of two widths by 19, changing nothing. Every table is sound.
+pub record Never (plan : List ℕ) (s : State) : Type 0 where
+  pub widths : (a b row : ℕ) → a < devices → b < devices → (a ≡ b → ⊥) → twoWidths (s .tables a) (s .tables b) ≡ when (not (eqb (widthOf (s .tables a)) (widthOf (s .tables b)))) 19
+  pub two : (a b row : ℕ) → a < devices → b < devices → (a ≡ b → ⊥) → widthOf (s .tables a) ≡ widthOf (s .tables b)
+      → twoRefused (widthOf (s .tables b)) (s .tables a) (s .tables b) row ≡ when (leb (length plan) row) 8
+  pub pass : (a b row : ℕ) → a < devices → b < devices → (a ≡ b → ⊥) → (list : List ℕ) → widthOf (s .tables a) ≡ widthOf (s .tables b)
+      → (passAny (s .tables a) (s .tables b) row list .number ≡ 0) ⊎ ((passAny (s .tables a) (s .tables b) row list .number ≡ 8) ⊎ (passAny (s .tables a) (s .tables b) row list .number ≡ 9))
+  pub apart : (a b row : ℕ) → a < devices → b < devices → (a ≡ b → ⊥) → (list : List ℕ) → (widthOf (s .tables a) ≡ widthOf (s .tables b) → ⊥)
+      → passAny (s .tables a) (s .tables b) row list ≡ record { number = 19; count = 0; target = s .tables b; answers = list }
+  pub sound : (d : ℕ) → d < devices → checkAny (s .tables d) ≡ 0
 
-pub never : (w : ℕ) (plan : List ℕ) (lent : ℕ → List ℕ) → Makes w plan lent → (steps : List Step) → Never w plan (ran w plan lent steps)
-never w plan lent makes steps = record {
-  two = kept-two w plan lent makes (ran w plan lent steps) (kept w plan lent makes steps);
-  pass = kept-pass w plan lent makes (ran w plan lent steps) (kept w plan lent makes steps);
-  sound = kept w plan lent makes steps .sound;
-}
+pub never : (columns : ℕ → ℕ) (plan : List ℕ) (lent : ℕ → List ℕ) → Makes columns plan lent → (steps : List Step) → Never plan (ran columns plan lent steps)
+never columns plan lent makes steps =
+    let s = ran columns plan lent steps in
+    let k = kept columns plan lent makes steps in
+    record {
+      widths = kept-widths columns plan lent makes s k;
+      two = kept-two columns plan lent makes s k;
+      pass = kept-pass columns plan lent makes s k;
+      apart = kept-apart columns plan lent makes s k;
+      sound = k .sound;
+    }
+
+-- A WIDENING that is accepted: eight columns become sixteen, and the table, its clock and every sheet's row and known time,
+-- is the same; so no set of events changes.
+pub record Same-widened (t wider : List ℕ) : Type 0 where
+  pub before : widthOf t ≡ 8
+  pub after : widthOf (widenOf t wider .table) ≡ 16
+  pub same : tableAny (widenOf t wider .table) ≡ tableAny t
+  pub sound : checkAny (widenOf t wider .table) ≡ 0
+
+pub same-widened : (t wider : List ℕ) → widenOf t wider .number ≡ 0 → Same-widened t wider
+same-widened t wider e =
+    let x = widen-same t wider e in
+    record { before = widened t wider e .narrow; after = x .width; same = x .same; sound = x .check }
+
+-- ONE WIDTH: the tables of an accepted pass have one width, and the target keeps it, with its whole head.
+pub record One-width (s t : List ℕ) (out : Passed) : Type 0 where
+  pub one : widthOf s ≡ widthOf t
+  pub kept : widthOf (out .target) ≡ widthOf t
+  pub head : take (wide (widthOf t)) (out .target) ≡ take (wide (widthOf t)) t
+
+pub one-width : (s t : List ℕ) (row : ℕ) (list : List ℕ) → passAny s t row list .number ≡ 0 → One-width s t (passAny s t row list)
+one-width s t row list e =
+    let w = widthOf t in
+    let two = pass-any s t row list e .two in
+    let acc = pass-accepted s t row list e in
+    record {
+      one = two .one;
+      kept = ap (λ (o : Passed). widthOf (o .target)) (acc .done) ∙ width-written w (width-either t) (passDone w (tableAny s) (tableAny t) row);
+      head = pass-head w (tableAny s) (tableAny t) row list _ acc ∙ ap (take (wide w)) (checked-written w t (check-facts w t (two .target)));
+    }
 
 -- 3. WHOLE-LOOK, with no run: what an accepted pass from the words s to the words t does, row by row. Each sheet of the
 -- subtree has the answer, the row and the known time that the six rules give for that sheet alone from the tables as they
--- were, though folders are passed over. Every other sheet's row and known time is as it was, and so are head and counter.
-pub record Whole-look (w : ℕ) (s t : List ℕ) (row : ℕ) (list : List ℕ) : Type 0 where
+-- were, though folders are passed over. Every other sheet's row and known time is as it was, and so is the clock.
+pub record Whole-look (a b after : Table) (row : ℕ) (list : List ℕ) (out : Passed) : Type 0 where
   -- one number for each row of the subtree
-  pub long : length (passOf w s t row list .answers) ≡ length list
+  pub long : length (out .answers) ≡ length list
   -- at a sheet, the number of the ruling
-  pub said : (j : ℕ) (x y : Cell Vec) → j < length list → cellAt (tableOf w s) (row + j) ≡ some x → cellAt (tableOf w t) (row + j) ≡ some y
-      → getD (passOf w s t row list .answers) j 0 ≡ numberOf (ruling covers x y)
+  pub said : (j : ℕ) (x y : Cell Vec) → j < length list → cellAt a (row + j) ≡ some x → cellAt b (row + j) ≡ some y → getD (out .answers) j 0 ≡ numberOf (ruling covers x y)
   -- and what the ruling makes of the two cells, row and known time
-  pub inside : (j : ℕ) → j < length list
-      → cellAt (tableOf w (passOf w s t row list .target)) (row + j) ≡ both (passed vectors) (cellAt (tableOf w s) (row + j)) (cellAt (tableOf w t) (row + j))
-  pub outside : (i : ℕ) → within row (length list) i ≡ false → cellAt (tableOf w (passOf w s t row list .target)) i ≡ cellAt (tableOf w t) i
+  pub inside : (j : ℕ) → j < length list → cellAt after (row + j) ≡ both (passed vectors) (cellAt a (row + j)) (cellAt b (row + j))
+  pub outside : (i : ℕ) → within row (length list) i ≡ false → cellAt after i ≡ cellAt b i
   -- the same rows are sheets in source and target
-  pub sheets : (i : ℕ) → isFolder (cellAt (tableOf w s) i) ≡ isFolder (cellAt (tableOf w t) i)
-  pub clock : tableOf w (passOf w s t row list .target) .clock ≡ tableOf w t .clock
-  pub head : take (wide w) (passOf w s t row list .target) ≡ take (wide w) t
+  pub sheets : (i : ℕ) → isFolder (cellAt a i) ≡ isFolder (cellAt b i)
+  pub clock : after .clock ≡ b .clock
 
-pub whole-look : (w : ℕ) (s t : List ℕ) (row : ℕ) (list : List ℕ) → passOf w s t row list .number ≡ 0 → Whole-look w s t row list
-whole-look w s t row list e =
-    let acc = pass-accepted w s t row list e in
-    record {
-      long = pass-long w s t row list acc;
-      said = pass-number-at w s t row list acc;
-      inside = pass-cell w s t row list acc;
-      outside = pass-away w s t row list acc;
-      sheets = pass-sheets w s t row list acc;
-      clock = pass-clock w s t row list acc;
-      head = pass-head w s t row list acc;
-    }
+pub whole-look : (s t : List ℕ) (row : ℕ) (list : List ℕ) → passAny s t row list .number ≡ 0
+    → Whole-look (tableAny s) (tableAny t) (tableAny (passAny s t row list .target)) row list (passAny s t row list)
+whole-look s t row list e =
+    let w = widthOf t in
+    let a = tableAny s in
+    let b = tableAny t in
+    let out = passAny s t row list in
+    let acc = pass-accepted s t row list e in
+    subst (λ v. Whole-look a b (tableOf v (out .target)) row list out) (sym (one-width s t row list e .kept))
+    (record {
+      long = pass-long w a b row list out acc;
+      said = pass-number-at w a b row list out acc;
+      inside = pass-cell w a b row list out acc;
+      outside = pass-away w a b row list out acc;
+      sheets = pass-sheets w a b row list out acc;
+      clock = pass-clock w a b row list out acc;
+    })
 
 -- 4. SOUND: each call that succeeds leaves a table whose check is 0.
-pub record Sound (w : ℕ) : Type 0 where
-  pub new : (d : ℕ) (plan table : List ℕ) → newOf w d plan table .number ≡ 0 → checkOf w (newOf w d plan table .table) ≡ 0
-  pub event : (t : List ℕ) (row event mark : ℕ) → eventOf w t row event mark .number ≡ 0 → checkOf w (eventOf w t row event mark .table) ≡ 0
-  pub pass : (s t : List ℕ) (row : ℕ) (list : List ℕ) → passOf w s t row list .number ≡ 0 → checkOf w (passOf w s t row list .target) ≡ 0
-  pub settle : (s t : List ℕ) (row choice mark : ℕ) → settleOf w s t row choice mark .number ≡ 0 → checkOf w (settleOf w s t row choice mark .table) ≡ 0
+pub record Sound : Type 0 where
+  pub new : (columns d : ℕ) (plan table : List ℕ) → newAny columns d plan table .number ≡ 0 → checkAny (newAny columns d plan table .table) ≡ 0
+  pub widen : (t wider : List ℕ) → widenOf t wider .number ≡ 0 → checkAny (widenOf t wider .table) ≡ 0
+  pub event : (t : List ℕ) (row event mark : ℕ) → eventAny t row event mark .number ≡ 0 → checkAny (eventAny t row event mark .table) ≡ 0
+  pub pass : (s t : List ℕ) (row : ℕ) (list : List ℕ) → passAny s t row list .number ≡ 0 → checkAny (passAny s t row list .target) ≡ 0
+  pub settle : (s t : List ℕ) (row choice mark : ℕ) → settleAny s t row choice mark .number ≡ 0 → checkAny (settleAny s t row choice mark .table) ≡ 0
 
-pub sound : (w : ℕ) → Sound w
-sound w = record {
-  new = λ d plan table e. new-accepted w d plan table e .check;
-  event = event-sound w;
-  pass = λ s t row list e. pass-sound w s t row list (pass-accepted w s t row list e);
-  settle = settle-sound w;
+pub sound : Sound
+sound = record {
+  new = new-sound;
+  widen = λ t wider e. widen-same t wider e .check;
+  event = event-sound;
+  pass = λ s t row list e.
+      ap (λ v. checkOf v (passAny s t row list .target)) (one-width s t row list e .kept)
+      ∙ pass-sound (widthOf t) (tableAny s) (tableAny t) row list _ (pass-accepted s t row list e);
+  settle = settle-sound;
 }
 
 -- 5. PASSED OVER: of an accepted pass, 5 stands at a folder of the list exactly when it lies beneath a 5 or the paper's
 -- condition holds there by the tables as they were; 4 stands at every other folder.
-pub passed-over : (w : ℕ) (s t : List ℕ) (row : ℕ) (list : List ℕ) → passOf w s t row list .number ≡ 0
-    → (j : ℕ) → j < length list → isFolder (sheetHere (subtree (tableOf w t .tree) (row + j))) ≡ true
-    → getD (passOf w s t row list .answers) j 0
-    ≡ cond (beneathFive (subtree (tableOf w t .tree) row) (passOf w s t row list .answers) j || overAt w (tableOf w s) (tableOf w t) (row + j)) 5 4
-passed-over w s t row list e = pass-folder w s t row list (pass-accepted w s t row list e)
+pub passed-over : (s t : List ℕ) (row : ℕ) (list : List ℕ) → passAny s t row list .number ≡ 0
+    → (j : ℕ) → j < length list → isFolder (sheetHere (subtree (tableAny t .tree) (row + j))) ≡ true
+    → getD (passAny s t row list .answers) j 0
+    ≡ cond (beneathFive (subtree (tableAny t .tree) row) (passAny s t row list .answers) j || overAt (widthOf t) (tableAny s) (tableAny t) (row + j)) 5 4
+passed-over s t row list e = pass-folder (widthOf t) (tableAny s) (tableAny t) row list _ (pass-accepted s t row list e)
 
 -- A folder with nothing in it is always passed over.
-pub empty-passed-over : (w : ℕ) (s t : List ℕ) (row : ℕ) (list : List ℕ) → passOf w s t row list .number ≡ 0
-    → (j : ℕ) → j < length list → isFolder (sheetHere (subtree (tableOf w t .tree) (row + j))) ≡ true → size (subtree (tableOf w t .tree) (row + j)) ≡ 1
-    → getD (passOf w s t row list .answers) j 0 ≡ 5
-empty-passed-over w s t row list e = pass-empty w s t row list (pass-accepted w s t row list e)
+pub empty-passed-over : (s t : List ℕ) (row : ℕ) (list : List ℕ) → passAny s t row list .number ≡ 0
+    → (j : ℕ) → j < length list → isFolder (sheetHere (subtree (tableAny t .tree) (row + j))) ≡ true → size (subtree (tableAny t .tree) (row + j)) ≡ 1
+    → getD (passAny s t row list .answers) j 0 ≡ 5
+empty-passed-over s t row list e = pass-empty (widthOf t) (tableAny s) (tableAny t) row list _ (pass-accepted s t row list e)
 
 -- 6. LOOKED: the count of an accepted pass is the number of rows that don't lie beneath a passed-over folder. If source and
 -- target are level at the start row, k sheets there have a source stamp that the target doesn't cover, the subtree has D
 -- levels and no folder more than W children, it is at most 1 + k(D-1)W.
-pub record Looked (w : ℕ) (s t : List ℕ) (row : ℕ) (list : List ℕ) : Type 0 where
-  pub rows : passOf w s t row list .count ≡ tally (length list) (λ j. not (beneathFive (subtree (tableOf w t .tree) row) (passOf w s t row list .answers) j))
-  pub few : (k D W : ℕ) → levelAt w (tableOf w s) row ≡ true → levelAt w (tableOf w t) row ≡ true
-      → k ≡ tally (length list) (λ j. unheard (cellAt (tableOf w s) (row + j)) (cellAt (tableOf w t) (row + j)))
-      → D ≡ levels (subtree (tableOf w t .tree) row) → widest (subtree (tableOf w t .tree) row) ≤ W
-      → passOf w s t row list .count ≤ 1 + k * ((D - 1) * W)
+pub record Looked (w : ℕ) (a b : Table) (row : ℕ) (list : List ℕ) (out : Passed) : Type 0 where
+  pub rows : out .count ≡ tally (length list) (λ j. not (beneathFive (subtree (b .tree) row) (out .answers) j))
+  pub few : (k D W : ℕ) → levelAt w a row ≡ true → levelAt w b row ≡ true → k ≡ tally (length list) (λ j. unheard (cellAt a (row + j)) (cellAt b (row + j)))
+      → D ≡ levels (subtree (b .tree) row) → widest (subtree (b .tree) row) ≤ W → out .count ≤ 1 + k * ((D - 1) * W)
 
-pub looked : (w : ℕ) (s t : List ℕ) (row : ℕ) (list : List ℕ) → passOf w s t row list .number ≡ 0 → Looked w s t row list
-looked w s t row list e =
-    let acc = pass-accepted w s t row list e in
-    record { rows = pass-looked w s t row list acc; few = pass-few w s t row list acc }
+pub looked : (s t : List ℕ) (row : ℕ) (list : List ℕ) → passAny s t row list .number ≡ 0 → Looked (widthOf t) (tableAny s) (tableAny t) row list (passAny s t row list)
+looked s t row list e =
+    let acc = pass-accepted s t row list e in
+    record { rows = pass-looked (widthOf t) (tableAny s) (tableAny t) row list _ acc; few = pass-few (widthOf t) (tableAny s) (tableAny t) row list _ acc }

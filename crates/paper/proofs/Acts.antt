@@ -7,8 +7,9 @@ use lib.ListN.{getD, take}
 use Rattle.paper.specs.declared.Clock.{Clock}
 use Rattle.paper.specs.Words.{tableOf}
 use Rattle.paper.specs.Check.{checkOf}
-use Rattle.paper.specs.Calls.{Changed, eventOf, settleOf, rowAt}
-use Rattle.paper.proofs.Play.{Step, event, pass, settle, Desk, fresh, table, play, played}
+use Rattle.paper.specs.Calls.{Changed, rowAt}
+use Rattle.paper.specs.Widths.{eventAny, settleAny}
+use Rattle.paper.proofs.Play.{Step, event, pass, settle, Desk, narrow, table, play, played}
 
 record Outcome : Type 0 where
   number : ℕ
@@ -29,11 +30,11 @@ seen row o = record {
 
 -- device 0's event e at row 2 after some steps
 worked : List Step → ℕ → ℕ → Outcome
-worked before e mark = seen 2 (eventOf 8 (table (play fresh before) 0) 2 e mark)
+worked before e mark = seen 2 (eventAny (table (play narrow before) 0) 2 e mark)
 
 -- device 1 settles its conflict with device 0 at row 2
 settled : List Step → ℕ → ℕ → Outcome
-settled before choice mark = let k = play fresh before in seen 2 (settleOf 8 (table k 0) (table k 1) 2 choice mark)
+settled before choice mark = let k = play narrow before in seen 2 (settleAny (table k 0) (table k 1) 2 choice mark)
 
 -- an accepted call
 accepted : ℕ → ℕ → List ℕ → Outcome

@@ -10,7 +10,7 @@ pub mod Refusals
 pub mod Check
 pub mod Tables
 pub mod Calls
-pub mod OneOutcome
+pub mod Widths
 pub mod Computed
 pub mod Play
 pub mod Marked

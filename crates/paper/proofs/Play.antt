@@ -1,19 +1,21 @@
 -- Short runs on the paper's plan, played at the words by the calls' own definitions, for proofs by computation.
 use Prim.{Unit, tt}
-use Prim.Native.Nat.{ℕ}
+use Prim.Native.Nat.{ℕ, _*_}
 use mathlib.Core.List.{List, [], _∷_, map}
 use lib.ListN.{getD, replicate, set}
 use Rattle.paper.specs.Refusals.{first}
-use Rattle.paper.specs.Calls.{Changed, Passed, newOf, eventOf, passOf, settleOf}
+use Rattle.paper.specs.Calls.{Changed, Passed}
+use Rattle.paper.specs.Words.{wide}
+use Rattle.paper.specs.Widths.{newAny, eventAny, passAny, settleAny}
 use Rattle.paper.proofs.Computed.{computed}
 
--- a step of a run: device d makes event e at a row, a passes to b from a row on, b settles with a at a row by choice c
+-- a step of a run: table d has event e at a row, a is passed to b from a row on, b settles with a at a row by choice c
 pub data Step : Type 0 where
   event : (d row e mark : ℕ) → Step
   pass : (a b row : ℕ) → Step
   settle : (a b row c mark : ℕ) → Step
 
--- the tables of devices 0, 1 and 2, and the first refusal so far
+-- the tables of three devices, and the first refusal so far
 pub record Desk : Type 0 where
   pub tables : List (List ℕ)
   pub refused : ℕ
@@ -21,15 +23,20 @@ pub record Desk : Type 0 where
 unfoldable pub plan : List ℕ
 plan = 5 ∷ 3 ∷ 0 ∷ 0 ∷ 0 ∷ []
 
-unfoldable pub fresh : Desk
-fresh = record { tables = map (λ d. newOf 8 d plan (replicate 240 9) .table) (0 ∷ 1 ∷ 2 ∷ []); refused = 0 }
+-- new tables of w columns, of the devices named
+unfoldable pub fresh : ℕ → List ℕ → Desk
+fresh w devices = record { tables = map (λ d. newAny w d plan (replicate (6 * wide w) 9) .table) devices; refused = 0 }
+
+-- with eight columns, devices 0, 1 and 2
+unfoldable pub narrow : Desk
+narrow = fresh 8 (0 ∷ 1 ∷ 2 ∷ [])
 
 unfoldable pub table : Desk → ℕ → List ℕ
 table k d = getD (k .tables) d []
 
 -- a pass between two devices, with a list of the right length for the plan's rows
 unfoldable pub passed : Desk → ℕ → ℕ → ℕ → Passed
-passed k a b row = passOf 8 (table k a) (table k b) row (replicate (getD (5 ∷ 3 ∷ 1 ∷ 1 ∷ 1 ∷ []) row 0) 9)
+passed k a b row = passAny (table k a) (table k b) row (replicate (getD (5 ∷ 3 ∷ 1 ∷ 1 ∷ 1 ∷ []) row 0) 9)
 
 -- the desk with device d's table and the call's number taken in
 unfoldable pub with-table : Desk → ℕ → List ℕ → ℕ → Desk
@@ -42,9 +49,9 @@ unfoldable pub received : Desk → ℕ → Passed → Desk
 received k d o = with-table k d (o .target) (o .number)
 
 unfoldable pub step : Desk → Step → Desk
-step k (event d row e mark) = changed k d (eventOf 8 (table k d) row e mark)
+step k (event d row e mark) = changed k d (eventAny (table k d) row e mark)
 step k (pass a b row) = received k b (passed k a b row)
-step k (settle a b row c mark) = changed k b (settleOf 8 (table k a) (table k b) row c mark)
+step k (settle a b row c mark) = changed k b (settleAny (table k a) (table k b) row c mark)
 
 unfoldable pub play : Desk → List Step → Desk
 play k [] = k
@@ -52,5 +59,5 @@ play k (x ∷ xs) = play (step k x) xs
 
 -- every definition here and in the paper, opened at once
 unfoldable pub played : Unit {0}
-unfolding plan fresh table passed with-table changed received step play computed
+unfolding plan fresh narrow table passed with-table changed received step play computed
 played = tt

@@ -1,38 +1,38 @@
--- `raise_folder` meets its contract: the floor is raised, then the summaries are put right by those in the row.
+-- At either width.
 use borrow.Author.Needs.{needs}
-use Rattle.sheet.proofs.Rows.{over-row}
-use Rattle.vector.specs.Width.{devices}
+use mathlib.Core.Path.{_≡_, sym, ap, subst, _∙_}
 use Rattle.paper.specs.Columns.{vec}
+use Rattle.paper.proofs.Widths.{width-wide}
+use Rattle.sheet.specs.Leaves.{Rows, overRow}
 use Rattle.sheet.proofs.folder.raise_folder.Statement.{statement}
 use Rattle.sheet.proofs.folder.raise_folder.Tie as tie
 
-full-at-requires : tie.Need-full-at-requires
-full-at-requires c κs = search needs
-
-raise-floor-requires : tie.Need-raise-floor-requires
-raise-floor-requires c κs = search needs
-
-of-folder-requires : tie.Need-of-folder-requires
-of-folder-requires c κs = search needs
-
-mend-requires : tie.Need-mend-requires
-mend-requires c κs = search needs
-
-same-length : tie.Need-same-length
-same-length c = search needs
+narrow-raise-folder-requires : tie.Need-narrow-raise-folder-requires
+narrow-raise-folder-requires c κs =
+    let i = c .before in
+    let s = i .before .before .before in
+    subst (λ w. Rows w (s .args .s .now) (s .args .t .now) (s .args .a) (s .args .b)) (i .if1 .taken) (s .pre .1)
 
 returns : tie.Need-returns
-returns c = let q = c .before .before .before .before .before .before .before .before .before .before .before .before .before .args in
-    over-row devices (q .a) (q .b) (vec (q .ua .0)) (vec (q .ua .0)) (q .s .now) (q .t .now)
-    (c .before .before .before .before .before .before .before .before .before .before .full-at .ensures) (c .before .before .before .before .before .before .before .before .raise-floor .ensures) (c .before .before .before .before .of-folder .ensures) (c .before .before .mend .ensures)
+returns c =
+    let r = c .before .before in
+    let i = r .before .before in
+    let s = i .before .before .before in
+    r .narrow-raise-folder .ensures ∙ ap (λ w. overRow w (s .args .a) (s .args .b) (vec (s .args .ua .0)) (s .args .s .now) (s .args .t .now)) (sym (i .if1 .taken))
+
+wide-raise-folder-requires : tie.Need-wide-raise-folder-requires
+wide-raise-folder-requires c κs =
+    let i = c .before in
+    let s = i .before .before .before in
+    subst (λ w. Rows w (s .args .s .now) (s .args .t .now) (s .args .a) (s .args .b)) (width-wide (s .args .columns) (s .pre .0) (i .if1 .left)) (s .pre .1)
+
+returns-2 : tie.Need-returns-2
+returns-2 c =
+    let r = c .before .before in
+    let i = r .before .before in
+    let s = i .before .before .before in
+    r .wide-raise-folder .ensures
+    ∙ ap (λ w. overRow w (s .args .a) (s .args .b) (vec (s .args .ua .0)) (s .args .s .now) (s .args .t .now)) (sym (width-wide (s .args .columns) (s .pre .0) (i .if1 .left)))
 
 pub raise-folder-spec : {M : Type 1} → statement M
-raise-folder-spec =
-    tie.close
-    (tie.spec
-    full-at-requires
-    raise-floor-requires
-    of-folder-requires
-    mend-requires
-    same-length
-    returns)
+raise-folder-spec = tie.close (tie.spec narrow-raise-folder-requires (λ c. search needs) returns wide-raise-folder-requires (λ c. search needs) returns-2)

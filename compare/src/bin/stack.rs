@@ -1,0 +1,163 @@
+//! Measures the stack that each export takes on tables of 256 rows, at both widths and in three shapes of tree: the
+//! bytes beneath its caller that it has touched. Each call succeeds, but that a wide table isn't widened.
+
+#![allow(unsafe_code)]
+
+use std::hint::black_box;
+use std::{ptr, thread};
+
+use compare::program::{Answer, PRODUCT};
+use second::layout::{Width, MOST_LEVELS, MOST_ROWS};
+use second::trial::look::fresh;
+use second::trial::plans;
+
+/// The bytes of stack that are painted before a call.
+const FIELD: usize = 1 << 20;
+
+/// What they are painted with.
+const PAINT: u8 = 0xa5;
+
+/// The bytes next to the measuring function that stay as they are: its own may lie there.
+const MARGIN: usize = 256;
+
+fn main() {
+    let measuring = thread::Builder::new().stack_size(4 * FIELD);
+    let measured = measuring.spawn(print_all).expect("a thread");
+    measured.join().expect("all is measured");
+}
+
+fn print_all() {
+    let shapes = [
+        ("flat", plans::flat(MOST_ROWS - 1)),
+        (
+            "deep",
+            plans::chain(MOST_LEVELS - 1, MOST_ROWS - MOST_LEVELS + 1),
+        ),
+        ("steps", steps()),
+    ];
+    println!("bytes of stack at {MOST_ROWS} rows, with 8 and 16 columns");
+    println!("flat: one folder; deep: 16 levels, all sheets on the last; steps: 16 levels, 16 sheets on each");
+    let mut columns = Vec::new();
+    print!("{:20}", "");
+    for width in Width::BOTH {
+        for (name, plan) in &shapes {
+            print!("{:>10}", format!("{name} {}", width.columns()));
+            columns.push(Case::new(width, plan).measured());
+        }
+    }
+    println!();
+    for call in 0..columns[0].len() {
+        print!("{:20}", columns[0][call].0);
+        for column in &columns {
+            print!("{:10}", column[call].1);
+        }
+        println!();
+    }
+}
+
+/// Folders one in the other, before each of them sixteen sheets.
+fn steps() -> Vec<u32> {
+    let folders = 1..MOST_LEVELS;
+    let step = |folder: usize| {
+        let rest = MOST_ROWS - 17 * folder;
+        [0; 16].into_iter().chain([rest as u32])
+    };
+    let root = [MOST_ROWS as u32].into_iter();
+    root.chain(folders.flat_map(step)).collect()
+}
+
+/// Two tables: the source has created every sheet, the target the last one.
+struct Case {
+    width: Width,
+    plan: Vec<u32>,
+    source: Vec<u32>,
+    target: Vec<u32>,
+    /// The last sheet.
+    last: u32,
+}
+
+impl Case {
+    fn new(width: Width, plan: &[u32]) -> Case {
+        let [mut source, mut target] = [0, 1].map(|device| fresh(width, device, plan));
+        let mut last = 0;
+        for row in plans::sheets(plan) {
+            last = row as u32;
+            assert_eq!(second::event(&mut source, last, 1, 7).number, 0);
+        }
+        assert_eq!(second::event(&mut target, last, 1, 8).number, 0);
+        Case {
+            width,
+            plan: plan.to_vec(),
+            source,
+            target,
+            last,
+        }
+    }
+
+    /// The bytes that each call takes, by its name.
+    fn measured(&self) -> Vec<(&'static str, usize)> {
+        let (source, last) = (&self.source, self.last);
+        let columns = self.width.columns() as u32;
+        let mut made = self.target.clone();
+        let mut wide = vec![0; Width::Wide.length(MOST_ROWS)];
+        let mut answers = [0; MOST_ROWS];
+        let [mut changed, mut passed, mut looked_at, mut settled] =
+            [(); 4].map(|()| self.target.clone());
+        let calls: [Named; 10] = [
+            ("kf_check", &mut || (PRODUCT.check)(source)),
+            ("kf_new", &mut || {
+                (PRODUCT.new)(columns, 1, &self.plan, &mut made)
+            }),
+            ("kf_widen", &mut || (PRODUCT.widen)(source, &mut wide)),
+            ("kf_event", &mut || {
+                (PRODUCT.event)(&mut changed, last, 2, 9)
+            }),
+            ("kf_pass", &mut || {
+                (PRODUCT.pass)(source, &mut passed, 0, &mut answers)
+            }),
+            ("kf_pass, last sheet", &mut || {
+                (PRODUCT.pass)(source, &mut looked_at, last, &mut [0])
+            }),
+            ("kf_settle", &mut || {
+                (PRODUCT.settle)(source, &mut settled, last, 3, 9)
+            }),
+            ("kf_beneath", &mut || (PRODUCT.beneath)(source, 0)),
+            ("kf_standing", &mut || {
+                (PRODUCT.standing)(source, &self.target, last)
+            }),
+            ("kf_standing_side", &mut || Answer {
+                number: 0,
+                count: (PRODUCT.standing_side)(source, &self.target, last),
+            }),
+        ];
+        let is_wide = self.width == Width::Wide;
+        calls
+            .into_iter()
+            .map(|(name, call)| {
+                let (answer, depth) = depth(call);
+                let number = if is_wide && name == "kf_widen" { 19 } else { 0 };
+                assert_eq!(answer.number, number, "{name}");
+                (name, depth)
+            })
+            .collect()
+    }
+}
+
+/// A call and its name.
+type Named<'a> = (&'static str, &'a mut dyn FnMut() -> Answer);
+
+/// Paints the stack beneath this function, makes the call, and looks how far down the paint is gone.
+#[inline(never)]
+fn depth(call: &mut dyn FnMut() -> Answer) -> (Answer, usize) {
+    let here = 0u64;
+    let top = (&raw const here).expose_provenance() - MARGIN;
+    let field = ptr::with_exposed_provenance_mut::<u8>(top - FIELD);
+    // SAFETY: the thread's stack is longer than the field, and nothing that is still needed lies in it.
+    unsafe { field.write_bytes(PAINT, FIELD) };
+    let answer = black_box(call());
+    // SAFETY: as above; the call has returned.
+    let is_painted = |byte: &usize| unsafe { field.add(*byte).read_volatile() } == PAINT;
+    let painted = (0..FIELD).take_while(is_painted).count();
+    assert!(painted > 0, "the field is too small");
+    (answer, MARGIN + FIELD - painted)
+}

@@ -1,0 +1,82 @@
+//! The history of a run, held against its tables.
+
+use std::collections::BTreeSet;
+
+use second::history::{Event, History, State};
+use second::layout::Kind;
+use second::trial::look::{birth, kind, known, stamp};
+
+/// The history of a run's devices, and the counts at which its names of events start.
+pub struct Record {
+    /// What happened.
+    pub history: History,
+    /// The rows that are sheets.
+    pub sheets: Vec<usize>,
+    /// Each device's counter at the start: the history names its first event 1.
+    counters: Vec<u32>,
+}
+
+impl Record {
+    /// The record before any event: each device's counter, and the sheets.
+    pub fn new(counters: Vec<u32>, sheets: Vec<usize>) -> Record {
+        Record {
+            history: History::new(counters.len(), &sheets),
+            sheets,
+            counters,
+        }
+    }
+
+    /// A device's count of the event that the history counts so; 0 of none.
+    pub fn count_of(&self, device: usize, count: u32) -> u32 {
+        match count {
+            0 => 0,
+            _ => self.counters[device] + count,
+        }
+    }
+
+    /// The stamp that names an event of the history; that of none is empty.
+    fn stamp_of(&self, event: Option<Event>) -> (u32, u32) {
+        event.map_or((0, 0), |Event { device, count }| {
+            (device, self.count_of(device as usize, count))
+        })
+    }
+
+    /// A device's table and its history tell the same of every sheet: what it is, by which event, and which events
+    /// of the sheet have been taken into account. Else what differs, in words.
+    pub fn agrees(&self, device: usize, table: &[u32]) -> Result<(), String> {
+        for &row in &self.sheets {
+            let sheet = self.history.sheet(device, row);
+            let (is, last, born) = match sheet.state {
+                State::Never => (Kind::Never, None, None),
+                State::Live { last, birth } => (Kind::Live, Some(last), Some(birth)),
+                State::Removed { last } => (Kind::Removed, Some(last), None),
+            };
+            let is_same = kind(table, row) == is.number()
+                && stamp(table, row) == self.stamp_of(last)
+                && birth(table, row) == self.stamp_of(born);
+            if !is_same {
+                return Err(format!(
+                    "row {row} of device {device}: the history has {sheet:?}"
+                ));
+            }
+            let known = known(table, row);
+            for event in self.events_of(row) {
+                let (device_of_event, count) = self.stamp_of(Some(event));
+                let covered = known.count(device_of_event) >= count;
+                if covered != sheet.taken.contains(&event) {
+                    return Err(format!(
+                        "row {row} of device {device}: covers {event:?}, {covered}, the history has {sheet:?}"
+                    ));
+                }
+            }
+        }
+        Ok(())
+    }
+
+    /// All events of a sheet so far.
+    fn events_of(&self, row: usize) -> BTreeSet<Event> {
+        (0..self.counters.len())
+            .flat_map(|device| self.history.sheet(device, row).taken.iter().copied())
+            .collect()
+    }
+}

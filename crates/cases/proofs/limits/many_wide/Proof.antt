@@ -1,0 +1,22 @@
+-- The places go up to the end of the table.
+use borrow.Author.Needs.{needs}
+use Prim.Native.Nat.{_-_, _≤_}
+use Rattle.cases.proofs.limits.many_wide.Statement.{statement}
+use Rattle.cases.proofs.limits.many_wide.Tie as tie
+
+abbrev Inv-loop : tie.InvT-loop
+Inv-loop table₀ i₀ table i = i ≤ 258
+
+abbrev μ-loop : tie.MeasureT-loop
+μ-loop table₀ i₀ table i = 258 - i
+
+returns : tie.Need-returns Inv-loop μ-loop
+returns c = search needs
+
+pub many-wide-spec : {M : Type 1} → statement M
+many-wide-spec =
+    tie.close
+    (tie.spec
+    Inv-loop μ-loop (λ c. search needs) (λ c. search needs) (λ c. search needs) (λ c. search needs) (λ c. search needs) (λ c. search needs)
+    (λ c. search needs) (λ c. search needs) (λ c. search needs) (λ c. search needs) (λ c. search needs) (λ c. search needs) (λ c. search needs)
+    (λ c. search needs) returns)

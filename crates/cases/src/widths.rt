@@ -5,7 +5,7 @@ use crate::line::one_of;
 use crate::line::words;
 use crate::step::CREATE;
 use kettleflock::Answer;
-use kettleflock::pass::pass;
+use kettleflock::passing::pass;
 use vector::row::Narrow;
 use vector::row::Row;
 use vector::row::Wide;

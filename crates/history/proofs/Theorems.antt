@@ -19,19 +19,19 @@ use Rattle.paper.specs.Refusals.{when}
 use Rattle.paper.specs.Check.{checkOf}
 use Rattle.paper.specs.Calls.{Passed, isFolder, twoRefused, passDone}
 use Rattle.paper.specs.Widths.{widthOf, tableAny, checkAny, newAny, widenOf, eventAny, twoWidths, passAny, settleAny}
-use Rattle.paper.proofs.Tables.{check-facts, checked-written}
-use Rattle.paper.proofs.Widths.{width-either, width-written, widened, widen-same, pass-any}
-use Rattle.paper.proofs.Forests.{shape}
+use Rattle.laws.proofs.Tables.{check-facts, checked-written}
+use Rattle.laws.proofs.Widths.{width-either, width-written, widened, widen-same, pass-any}
+use Rattle.laws.proofs.Forests.{shape}
 use Rattle.history.specs.Knowledge.{vectors, sets, passed}
 use Rattle.history.specs.Run.{Step, State, within, devices, Makes, ran, begun}
 use Rattle.history.specs.Look.{cellAt, both, overAt, beneathFive, tally, levelAt, unheard, widest}
 use Rattle.history.proofs.Bridge.{three}
-use Rattle.history.proofs.Accepted.{pass-accepted}
-use Rattle.history.proofs.New.{planRows}
-use Rattle.history.proofs.Kept.{Kept}
-use Rattle.history.proofs.Plans.{kept-widths, kept-two, kept-pass, kept-apart, kept-said}
-use Rattle.history.proofs.OnWords.{pass-long, pass-number-at, pass-cell, pass-away, pass-sheets, pass-clock, pass-head, pass-sound, pass-folder, pass-empty, pass-looked, pass-few, new-sound, event-sound, settle-sound}
-use Rattle.history.proofs.Always.{begun-kept, run-kept}
+use Rattle.history.proofs.CallsAccepted.{pass-accepted}
+use Rattle.history.proofs.NewTables.{planRows}
+use Rattle.history.proofs.RunInvariant.{Kept}
+use Rattle.history.proofs.PlanOfRun.{kept-widths, kept-two, kept-pass, kept-apart, kept-said}
+use Rattle.history.proofs.CallsOnWords.{pass-long, pass-number-at, pass-cell, pass-away, pass-sheets, pass-clock, pass-head, pass-sound, pass-folder, pass-empty, pass-looked, pass-few, new-sound, event-sound, settle-sound}
+use Rattle.history.proofs.EveryRun.{begun-kept, run-kept}
 
 -- the invariant after a run, for the proofs of 1 and 2
 kept : (columns : ℕ → ℕ) (plan : List ℕ) (lent : ℕ → List ℕ) → Makes columns plan lent → (steps : List Step) → Kept (shape (planRows 16 plan)) (ran columns plan lent steps)

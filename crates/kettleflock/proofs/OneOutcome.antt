@@ -19,7 +19,7 @@ use Rattle.kettleflock.proofs.check as check
 use Rattle.kettleflock.proofs.new as new
 use Rattle.kettleflock.proofs.widen as widen
 use Rattle.kettleflock.proofs.event as event
-use Rattle.kettleflock.proofs.pass.pass as pass
+use Rattle.kettleflock.proofs.passing.pass as pass
 use Rattle.kettleflock.proofs.settling.settle as settle
 use Rattle.kettleflock.proofs.showing.beneath_answer as beneath-answer
 use Rattle.kettleflock.proofs.showing.standing_answer as standing-answer

@@ -1,16 +1,3 @@
-pub mod Bools
-pub mod Columns
-pub mod Order
-pub mod Forests
-pub mod Formed
-pub mod Blank
-pub mod Rows
-pub mod Walks
-pub mod Refusals
-pub mod Check
-pub mod Tables
-pub mod Calls
-pub mod Widths
 pub mod Computed
 pub mod Play
 pub mod Marked

@@ -1,0 +1,135 @@
+-- Laws of the calls: the number returned is the refusal's; a refused call leaves its buffers as they were; what two
+-- tables that are accepted are like.
+use Prim.Native.Nat.{ℕ, zero, suc, _+_, _<_, _≤_}
+use mathlib.Core.Path.{_≡_, refl, sym, ap, _∙_}
+use mathlib.Core.List.{List, [], _∷_}
+use mathlib.Core.Bool.{Bool, true, false, not, cond}
+use native.Mathlib.Omega.{arith}
+use lib.Dec.{leb, eqb}
+use borrow.Author.Tests.{eqb-true, eqb-false, leb-false}
+use lib.ListN.{length}
+use Rattle.paper.specs.Tree.{size, subtree, shaped, above, later}
+use Rattle.paper.specs.Walk.{answers, looked}
+use Rattle.paper.specs.Acts.{Choice, stamps}
+use Rattle.paper.specs.Words.{Table, tableOf, written}
+use Rattle.paper.specs.Refusals.{unless, tens}
+use Rattle.paper.specs.Check.{checkOf}
+use Rattle.paper.specs.Good.{GoodTable}
+use Rattle.paper.specs.Calls.{Changed, Passed, newRefused, newOf, eventNamed, eventRefused, eventDone, eventOf, twoRefused, pairAt, passRefused, passDone, passOf, choiceNamed, settleRefused, settleDone, settleOf}
+use Rattle.laws.proofs.Refusals.{first-both, when-none, none-so, tens-none, unless-none, unless-some, unless-at, unless-number}
+use Rattle.laws.proofs.Tables.{check-facts, checked-good, checked-written}
+
+-- THE NUMBER is 0 exactly where nothing refuses
+
+pub new-number : (w d : ℕ) (plan table : List ℕ) → newOf w d plan table .number ≡ newRefused w d plan table
+unfolding newOf
+new-number w d plan table = unless-at (λ (o : Changed). o .number) (newRefused w d plan table) _ _ ∙ unless-number (newRefused w d plan table)
+
+pub event-number : (w : ℕ) (t : List ℕ) (row event mark : ℕ) → eventOf w t row event mark .number ≡ eventRefused w t row event
+unfolding eventOf
+event-number w t row event mark = unless-at (λ (o : Changed). o .number) (eventRefused w t row event) _ _ ∙ unless-number (eventRefused w t row event)
+
+pub pass-number : (w : ℕ) (s t : List ℕ) (row : ℕ) (list : List ℕ) → passOf w s t row list .number ≡ passRefused w s t row list
+unfolding passOf
+pass-number w s t row list = unless-at (λ (o : Passed). o .number) (passRefused w s t row list) _ _ ∙ unless-number (passRefused w s t row list)
+
+pub settle-number : (w : ℕ) (s t : List ℕ) (row choice mark : ℕ) → settleOf w s t row choice mark .number ≡ settleRefused w s t row choice
+unfolding settleOf
+settle-number w s t row choice mark = unless-at (λ (o : Changed). o .number) (settleRefused w s t row choice) _ _ ∙ unless-number (settleRefused w s t row choice)
+
+-- A REFUSAL has the count 0 and changes no word
+
+-- the outcome of a refused call on a table
+abbrev pub kept : ℕ → List ℕ → Changed
+kept n t = record { number = n; count = 0; table = t }
+
+pub new-refused : (w d : ℕ) (plan table : List ℕ) → (newRefused w d plan table ≡ 0 → ⊥) → newOf w d plan table ≡ kept (newRefused w d plan table) table
+unfolding newOf
+new-refused w d plan table h = unless-some (newRefused w d plan table) _ _ h
+
+pub event-refused : (w : ℕ) (t : List ℕ) (row event mark : ℕ) → (eventRefused w t row event ≡ 0 → ⊥) → eventOf w t row event mark ≡ kept (eventRefused w t row event) t
+unfolding eventOf
+event-refused w t row event mark h = unless-some (eventRefused w t row event) _ _ h
+
+pub pass-refused : (w : ℕ) (s t : List ℕ) (row : ℕ) (list : List ℕ) → (passRefused w s t row list ≡ 0 → ⊥)
+    → passOf w s t row list ≡ record { number = passRefused w s t row list; count = 0; target = t; answers = list }
+unfolding passOf
+pass-refused w s t row list h = unless-some (passRefused w s t row list) _ _ h
+
+pub settle-refused : (w : ℕ) (s t : List ℕ) (row choice mark : ℕ) → (settleRefused w s t row choice ≡ 0 → ⊥) → settleOf w s t row choice mark ≡ kept (settleRefused w s t row choice) t
+unfolding settleOf
+settle-refused w s t row choice mark h = unless-some (settleRefused w s t row choice) _ _ h
+
+-- THE WORK where nothing refuses
+
+pub event-done : (w : ℕ) (t : List ℕ) (row event mark : ℕ) → eventRefused w t row event ≡ 0
+    → eventOf w t row event mark ≡ record {
+      number = 0;
+      count = suc (tableOf w t .clock .counter);
+      table = written w (eventDone (tableOf w t) row (eventNamed event) mark);
+    }
+unfolding eventOf
+event-done w t row event mark e = unless-none (eventRefused w t row event) _ _ e
+
+pub pass-done : (w : ℕ) (s t : List ℕ) (row : ℕ) (list : List ℕ) → passRefused w s t row list ≡ 0
+    → passOf w s t row list ≡ (let a = tableOf w s in let b = tableOf w t in record {
+      number = 0;
+      count = looked w (a .clock) (b .clock) (pairAt a b row) (above (a .tree) row) (above (b .tree) row);
+      target = written w (passDone w a b row);
+      answers = answers w (a .clock) (b .clock) (pairAt a b row) (above (a .tree) row) (above (b .tree) row);
+    })
+unfolding passOf
+pass-done w s t row list e = unless-none (passRefused w s t row list) _ _ e
+
+pub settle-done : (w : ℕ) (s t : List ℕ) (row choice mark : ℕ) → settleRefused w s t row choice ≡ 0
+    → settleOf w s t row choice mark ≡ record {
+      number = 0;
+      count = cond (stamps (choiceNamed choice)) (suc (tableOf w t .clock .counter)) 0;
+      table = written w (settleDone (tableOf w s) (tableOf w t) row (choiceNamed choice) mark);
+    }
+unfolding settleOf
+settle-done w s t row choice mark e = unless-none (settleRefused w s t row choice) _ _ e
+
+-- TWO TABLES that are accepted: both good and written as they stand, of one shape, of two devices, neither naming a later
+-- count of the other's device than its counter; and the row is there
+pub record Accepted (w : ℕ) (s t : List ℕ) (row : ℕ) : Type 0 where
+  pub source : GoodTable w (tableOf w s)
+  pub target : GoodTable w (tableOf w t)
+  pub sourceWords : written w (tableOf w s) ≡ s
+  pub targetWords : written w (tableOf w t) ≡ t
+  pub shaped : shaped (tableOf w s .tree) (tableOf w t .tree) ≡ true
+  pub apart : tableOf w s .clock .device ≡ tableOf w t .clock .device → ⊥
+  pub six : later (tableOf w t .clock) (tableOf w s .tree) ≡ false
+  pub seven : later (tableOf w s .clock) (tableOf w t .tree) ≡ false
+  pub there : row < size (tableOf w t .tree)
+
+pub two-accepted : (w : ℕ) (s t : List ℕ) (row : ℕ) → twoRefused w s t row ≡ 0 → Accepted w s t row
+unfolding twoRefused
+two-accepted w s t row e =
+    let one = first-both (checkOf w s) _ e in
+    let two = first-both (tens (checkOf w t)) _ (one .1) in
+    let four = first-both _ _ (two .1) in
+    let five = first-both _ _ (four .1) in
+    let six = first-both _ _ (five .1) in
+    let seven = first-both _ _ (six .1) in
+    let eight = first-both _ _ (seven .1) in
+    let a = check-facts w s (one .0) in
+    let b = check-facts w t (tens-none (checkOf w t) (two .0)) in
+    record {
+      source = checked-good w s a;
+      target = checked-good w t b;
+      sourceWords = checked-written w s a;
+      targetWords = checked-written w t b;
+      shaped = none-so _ 3 (four .0);
+      apart = eqb-false _ _ (when-none _ 4 (five .0));
+      six = when-none _ 5 (six .0);
+      seven = when-none _ 6 (seven .0);
+      there = omega (arith, leb-false (size (tableOf w t .tree)) row (when-none _ 7 (eight .0)));
+    }
+
+-- an accepted pass: two accepted tables, and the list is as long as the subtree has rows
+pub pass-accepted : (w : ℕ) (s t : List ℕ) (row : ℕ) (list : List ℕ) → passRefused w s t row list ≡ 0 → Accepted w s t row × (length list ≡ size (subtree (tableOf w t .tree) row))
+unfolding passRefused
+pass-accepted w s t row list e =
+    let two = first-both (twoRefused w s t row) _ e in
+    (two-accepted w s t row (two .0), eqb-true _ _ (none-so _ 8 (first-both _ _ (two .1) .0)))

@@ -1,0 +1,13 @@
+pub mod Bools
+pub mod Columns
+pub mod Order
+pub mod Forests
+pub mod FormedRows
+pub mod BlankWords
+pub mod WrittenRows
+pub mod GoodTrees
+pub mod Refusals
+pub mod Check
+pub mod Tables
+pub mod Calls
+pub mod Widths

@@ -1,0 +1,56 @@
+-- The counter decides in the own column; in another the floors above, then the floor.
+use Rattle.paper.specs.Columns.{vec}
+use Rattle.layout.proofs.RowRules.{covers-own, covers-above, covers-floor}
+use native.Mathlib.Omega.{arith}
+use Prim.Native.Nat.{_-_}
+use mathlib.Core.Path.{sym}
+use borrow.Author.Needs.{needs}
+use Rattle.layout.proofs.is_covered.Statement.{statement}
+use Rattle.layout.proofs.is_covered.Tie as tie
+
+returns : tie.Need-returns
+returns c =
+    let s = c .before .before .before .before .before .args in
+    sym (covers-own (s .columns) (s .clock) (vec (s .u .0)) (s .r .now) (s .stamp) (c .before .before .if1 .taken))
+
+cast-column : tie.Need-cast-column
+cast-column c = search needs
+
+mul-if2 : tie.Need-mul-if2
+mul-if2 c = search needs
+
+array-read-if2 : tie.Need-array-read-if2
+array-read-if2 c = search needs
+
+returns-2 : tie.Need-returns-2
+returns-2 c =
+    let s = c .before .before .before .before .before .before .before .args in
+    sym (covers-above (s .columns) (s .clock) (vec (s .u .0)) (s .r .now) (s .stamp) (c .before .before .before .before .if1 .left) (omega arith))
+
+add-result : tie.Need-add-result
+add-result c = search needs
+
+mul-result : tie.Need-mul-result
+mul-result c = search needs
+
+shared-slice-read-result : tie.Need-shared-slice-read-result
+shared-slice-read-result c = search needs
+
+returns-3 : tie.Need-returns-3
+returns-3 c =
+    let s = c .before .before .before .before .before .before .before .before .before in
+    sym (covers-floor (s .args .columns) (s .args .clock) (vec (s .args .u .0)) (s .args .r .now) (s .args .stamp) (c .before .before .before .before .before .before .if1 .left) (s .pre .1) (omega arith))
+
+pub is-covered-spec : {M : Type 1} → statement M
+is-covered-spec =
+    tie.close
+    (tie.spec
+    returns
+    cast-column
+    mul-if2
+    array-read-if2
+    returns-2
+    add-result
+    mul-result
+    shared-slice-read-result
+    returns-3)

@@ -1,0 +1,5 @@
+pub mod LeafWords
+pub mod RulesAtKinds
+pub mod TreeSteps
+pub mod SilentAnswers
+pub mod RowsWritten

@@ -1,0 +1,44 @@
+-- `wide_raise_floor` meets its contract.
+use native.Mathlib.Omega.{arith}
+use mathlib.Core.Path.{_≡_, ap, _∙_}
+use borrow.Author.Needs.{needs}
+use Rattle.leaf.proofs.single.wide_raise_floor.Statement.{statement}
+use Rattle.leaf.proofs.LeafWords.{floor-yes, floor-no}
+use Prim.Native.Nat.{ℕ}
+use Rattle.paper.specs.Columns.{Vec, vec, columns}
+use Rattle.paper.specs.Words.{floorOf, floorAt}
+use Rattle.paper.specs.Walk.{raised}
+use Rattle.vector.specs.Places.{put}
+use Rattle.leaf.proofs.single.wide_raise_floor.Tie as tie
+
+abbrev w : ℕ
+w = 16
+
+read-requires : tie.Need-read-requires
+read-requires c κs = search needs
+
+raised-requires : tie.Need-raised-requires
+raised-requires c κs = search needs
+
+write-requires : tie.Need-write-requires
+write-requires c κs = search needs
+
+same-length : tie.Need-same-length
+same-length c = search needs
+
+returns : tie.Need-returns
+returns c =
+    let q = c .before .before .before .before .before .before .before .before .before .args in
+    let t = q .t .now in
+    let f = raised (q .clock) (floorOf w t) (vec (q .v .0)) in
+    let e : vec (c .before .before .before .before .raised .result .0) ≡ f = c .before .before .before .before .raised .ensures ∙ ap (λ (x : Vec). raised (q .clock) x (vec (q .v .0))) (c .before .before .before .before .before .read .ensures) in
+    floor-yes w f (q .yes) (floorOf w t) t _ (c .before .before .before .before .before .before .before .if1 .taken) (c .before .before .write .ensures ∙ ap (λ (x : Vec). put floorAt (columns w x) t) e)
+
+returns-2 : tie.Need-returns-2
+returns-2 c =
+    let q = c .before .before .args in
+    floor-no w (raised (q .clock) (floorOf w (q .t .now)) (vec (q .v .0))) (q .yes) (q .t .now) (c .if1 .left) (omega (arith, c .before .before .pre .0))
+
+pub wide-raise-floor-spec : {M : Type 1} → statement M
+wide-raise-floor-spec =
+    tie.close (tie.spec read-requires raised-requires write-requires same-length returns returns-2)

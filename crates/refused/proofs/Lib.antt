@@ -1,0 +1,4 @@
+pub mod Beneath
+pub mod NewTable
+pub mod EventAndPass
+pub mod Settling

@@ -1,0 +1,211 @@
+-- A settling at the words: what it needs of the two tables, and the words afterwards.
+use Prim.Native.Nat.{ℕ, suc, _+_, _-_, _*_, _<_}
+use mathlib.Core.Path.{_≡_, refl, sym, ap, ap₂, subst, _∙_}
+use mathlib.Core.Bool.{Bool, true, false, _&&_, cond, false≢true}
+use mathlib.Core.List.{List, [], append-nil}
+use mathlib.Core.Option.{Option, none, some, Option·map}
+use native.Mathlib.Omega.{arith}
+use lib.Dec.{eqb}
+use borrow.Author.Tests.{eqb-false, eq-eqb, ne-eqb}
+use lib.ListN.{take, drop, set}
+use borrow.Rule.Slice.PartMut.{putMid}
+use Rattle.paper.specs.declared.Stamp.{Stamp}
+use Rattle.paper.specs.declared.Clock.{Clock}
+use Rattle.paper.specs.Columns.{Vec, full}
+use Rattle.paper.specs.Rules.{Kind, never, live, removed, Row}
+use Rattle.paper.specs.Acts.{Choice, theirs, own, new, stamps, birthOf, settleRow}
+use Rattle.paper.specs.Tree.{end, sheet, mapped, graft, sheetHere, Sheet, above}
+use Rattle.paper.specs.Walk.{Two, zip, raised, ruleAt}
+use Rattle.paper.specs.Words.{wide, kindNumber, floorOf, sheetWords, Table, tableOf}
+use Rattle.paper.specs.Calls.{rowAt, newStamp, ticked, lastCount, twoRefused, pairAt, rulingHere, conflicts, choiceNamed, settleRefused, settleSheet, settleDone}
+use Rattle.laws.proofs.Refusals.{first-both, none-so, when-none}
+use Rattle.laws.proofs.Forests.{sheet-alone}
+use Rattle.laws.proofs.WrittenRows.{sheet-read}
+use Rattle.leaf.specs.Leaves.{takenFrom, floored}
+use Rattle.leaf.proofs.TreeSteps.{raised-narrow}
+use Rattle.leaf.proofs.RowsWritten.{sheet-floored, sheet-taken}
+use Rattle.two.proofs.Listed.{row-cut}
+use Rattle.two.proofs.TwoTables.{Paired, paired}
+use Rattle.verdict.proofs.Zipped.{side-left, side-right, ruling-pair}
+use Rattle.settle.specs.SettledWords.{newWords, chosenWords, settledWords}
+use Rattle.mend.proofs.PutInPlace.{SheetAt, FineSheet, Changed, there, good, narrow-above, sheet-fine, sheet-part, sheet-changed}
+
+-- a choice by its number
+choice-theirs : (n : ℕ) → n ≡ 1 → choiceNamed n ≡ theirs
+unfolding choiceNamed
+choice-theirs n e = rw (eq-eqb n 1 e)
+
+choice-own : (n : ℕ) → n ≡ 2 → choiceNamed n ≡ own
+unfolding choiceNamed
+choice-own n e = rw e
+
+pub choice-new : (n : ℕ) → (n ≡ 1 → ⊥) → (n ≡ 2 → ⊥) → choiceNamed n ≡ new
+unfolding choiceNamed
+choice-new n e f = rw (ne-eqb n 1 e, ne-eqb n 2 f)
+
+pub new-stamps : stamps new ≡ true
+unfolding stamps
+new-stamps = refl
+
+-- THE ROW step by step, as the code goes: its floor raised, `one`, and then the choice
+module _ (w : ℕ) (b : Clock) (v : Vec) (n m : ℕ) (s r one : List ℕ) (up : one ≡ floored w (raised b (floorOf w r) v) r) where
+  settled-by : (c : Choice) → choiceNamed n ≡ c → (two : List ℕ) → two ≡ chosenWords c (newStamp b) m s one
+      → (cond (stamps c) (suc (b .counter)) 0 ≡ cond (stamps (choiceNamed n)) (suc (b .counter)) 0) × (two ≡ settledWords w b v (choiceNamed n) m s r)
+  unfolding settledWords
+  settled-by c e two g = (ap (λ x. cond (stamps x) (suc (b .counter)) 0) (sym e), g ∙ ap₂ (λ x y. chosenWords x (newStamp b) m s y) (sym e) up)
+
+  pub settled-theirs : n ≡ 1 → (two : List ℕ) → two ≡ takenFrom s one → (0 ≡ cond (stamps (choiceNamed n)) (suc (b .counter)) 0) × (two ≡ settledWords w b v (choiceNamed n) m s r)
+  unfolding chosenWords stamps
+  settled-theirs e two g = settled-by theirs (choice-theirs n e) two g
+
+  pub settled-own : n ≡ 2 → (0 ≡ cond (stamps (choiceNamed n)) (suc (b .counter)) 0) × (one ≡ settledWords w b v (choiceNamed n) m s r)
+  unfolding chosenWords stamps
+  settled-own e = settled-by own (choice-own n e) one refl
+
+  pub settled-new : (n ≡ 1 → ⊥) → (n ≡ 2 → ⊥) → (stamp : Stamp) → stamp ≡ newStamp b → (two : List ℕ) → two ≡ newWords stamp m s one
+      → (stamp .count ≡ cond (stamps (choiceNamed n)) (suc (b .counter)) 0) × (two ≡ settledWords w b v (choiceNamed n) m s r)
+  unfolding chosenWords stamps
+  settled-new e f stamp q two g =
+      let by = settled-by new (choice-new n e f) two (g ∙ ap (λ (z : Stamp). newWords z m s one) q) in
+      (ap (λ (z : Stamp). z .count) q ∙ by .0, by .1)
+
+-- a sheet's row with the floor f
+floor-words : (w : ℕ) (x : Sheet) (f : Vec) → floored w f (sheetWords w x) ≡ sheetWords w (record { row = x .row; floor = f })
+floor-words w x f = ap (floored w f) (sym (append-nil (sheetWords w x))) ∙ sheet-floored w x f [] ∙ append-nil (sheetWords w (record { row = x .row; floor = f }))
+
+-- and with a new row written into it
+new-words : (w : ℕ) (stamp : Stamp) (m : ℕ) (x : Sheet) (k : Kind) (s b : Stamp) (mark : ℕ) (f : Vec) → (let r : Row = record { kind = k; stamp = s; birth = b; mark = mark } in
+    newWords stamp m (sheetWords w x) (sheetWords w (record { row = r; floor = f })) ≡ sheetWords w (record { row = settleRow new stamp m (x .row) r; floor = f }))
+unfolding newWords sheetWords settleRow birthOf kindNumber
+new-words w stamp m x never s b mark f = refl
+new-words w stamp m x live s b mark f = refl
+new-words w stamp m x removed s b mark f = refl
+
+-- or with any choice
+choice-words : (w : ℕ) (c : Choice) (stamp : Stamp) (m : ℕ) (x y : Sheet) → chosenWords c stamp m (sheetWords w x) (sheetWords w y) ≡ sheetWords w (record { row = settleRow c stamp m (x .row) (y .row); floor = y .floor })
+unfolding chosenWords settleRow
+choice-words w theirs stamp m x y =
+    ap₂ takenFrom (sym (append-nil (sheetWords w x))) (sym (append-nil (sheetWords w y))) ∙ sheet-taken w x y [] [] ∙ append-nil (sheetWords w (record { row = x .row; floor = y .floor }))
+choice-words w own stamp m x y = refl
+choice-words w new stamp m x y = new-words w stamp m x (y .row .kind) (y .row .stamp) (y .row .birth) (y .row .mark) (y .floor)
+
+-- what is there where no refusal applies
+pub record SettleFits (w : ℕ) (s t : List ℕ) (row choice : ℕ) : Type 0 where
+  pub two : twoRefused w s t row ≡ 0
+  pub conflict : conflicts (rulingHere (tableOf w s) (tableOf w t) row) ≡ true
+  pub room : stamps (choiceNamed choice) ≡ true → tableOf w t .clock .counter ≡ lastCount → ⊥
+
+both-false : (a b : Bool) → (a && b) ≡ false → a ≡ true → b ≡ false
+both-false true b e h = e
+both-false false b e h = absurd (false≢true h)
+
+pub settle-facts : (w : ℕ) (s t : List ℕ) (row choice : ℕ) → settleRefused w s t row choice ≡ 0 → SettleFits w s t row choice
+unfolding settleRefused
+settle-facts w s t row choice e =
+    let a = first-both (twoRefused w s t row) _ e in
+    let b = first-both _ _ (a .1) in
+    let c = first-both _ _ (b .1) in
+    let d = first-both _ _ (c .1) in
+    let f = first-both _ _ (d .1) in
+    record {
+      two = a .0;
+      conflict = none-so _ 13 (d .0);
+      room = λ h. eqb-false _ _ (both-false _ _ (when-none _ 14 (f .0)) h);
+    }
+
+-- the two sheets that are in conflict
+pub record Sheets (w : ℕ) (s t : List ℕ) (row : ℕ) : Type 0 where
+  pub x : Two Sheet
+  pub is : sheetHere (pairAt (tableOf w s) (tableOf w t) row) ≡ some x
+
+module _ (w : ℕ) (s t : List ℕ) (row choice mark : ℕ) (ok : SettleFits w s t row choice) where
+  abbrev a : Table
+  a = tableOf w s
+
+  abbrev b : Table
+  b = tableOf w t
+
+  abbrev c : Choice
+  c = choiceNamed choice
+
+  accepted : Paired w s t row
+  accepted = paired w s t row (ok .two)
+
+  sheets : Sheets w s t row
+  sheets = go (sheetHere (pairAt a b row)) refl
+    where
+      go : (o : Option (Two Sheet)) → sheetHere (pairAt a b row) ≡ o → Sheets w s t row
+      go none z = absurd (false≢true (sym (ap conflicts (ruling-pair a b row (accepted .shaped) ∙ ap (Option·map (ruleAt (a .clock) (b .clock) (above (a .tree) row) (above (b .tree) row))) z)) ∙ ok .conflict))
+      go (some x) z = record { x = x; is = z }
+
+  abbrev x : Two Sheet
+  x = sheets .x
+
+  source-at : SheetAt w s row
+  source-at = record { at = there w s row (accepted .source) (accepted .inSource); x = x .a; is = side-left a b row (accepted .shaped) ∙ ap (Option·map (λ y. y .a)) (sheets .is) }
+
+  target-at : SheetAt w t row
+  target-at = record { at = there w t row (accepted .target) (accepted .inTarget); x = x .b; is = side-right a b row (accepted .shaped) ∙ ap (Option·map (λ y. y .b)) (sheets .is) }
+
+  -- the sheet afterwards
+  abbrev after : Sheet
+  after = settleSheet (a .clock) (b .clock) (above (a .tree) row) c mark x
+
+  fine-a : FineSheet w (x .a)
+  unfolding source-at
+  fine-a = sheet-fine w s row source-at
+
+  fine-b : FineSheet w (x .b)
+  unfolding target-at
+  fine-b = sheet-fine w t row target-at
+
+  stamp-fine : (c : Choice) → b .clock .device < w → settleRow c (newStamp (b .clock)) mark (x .a .row) (x .b .row) .stamp .device < w
+  unfolding settleRow
+  stamp-fine theirs h = fine-a .1
+  stamp-fine own h = fine-b .1
+  stamp-fine new h = h
+
+  after-fine : FineSheet w after
+  unfolding settleSheet
+  after-fine =
+      let da = good w s row (source-at .at) .device in
+      let db = good w t row (target-at .at) .device in
+      (raised-narrow (a .clock) (b .clock) da db (fine-b .0) (narrow-above w s row (source-at .at)) (fine-a .0), stamp-fine c db)
+
+  -- its words, as the row's part came back
+  after-words : (v : Vec) (e : List ℕ) → v ≡ full (a .clock) (above (a .tree) row) (floorOf w (rowAt w s row))
+      → e ≡ settledWords w (b .clock) v c mark (take ((row + 1) * wide w + wide w - (row + 1) * wide w) (drop ((row + 1) * wide w) s)) (take ((row + 1) * wide w + wide w - (row + 1) * wide w) (drop ((row + 1) * wide w) t))
+      → e ≡ sheetWords w after
+  unfolding settleSheet settledWords source-at target-at
+  after-words v e known wrote =
+      let floor-a : floorOf w (rowAt w s row) ≡ x .a .floor = ap (floorOf w) (sym (row-cut w s row) ∙ sheet-part w s row source-at) ∙ ap (λ (y : Sheet). y .floor) (sheet-read w (x .a) (fine-a .0)) in
+      let floor-b : floorOf w (sheetWords w (x .b)) ≡ x .b .floor = ap (λ (y : Sheet). y .floor) (sheet-read w (x .b) (fine-b .0)) in
+      let f = raised (b .clock) (x .b .floor) (full (a .clock) (above (a .tree) row) (x .a .floor)) in
+      wrote
+      ∙ ap₂ (λ y z. settledWords w (b .clock) v c mark y z) (sheet-part w s row source-at) (sheet-part w t row target-at)
+      ∙ ap₂ (λ (y z : Vec). chosenWords c (newStamp (b .clock)) mark (sheetWords w (x .a)) (floored w (raised (b .clock) y z) (sheetWords w (x .b)))) floor-b (known ∙ ap (full (a .clock) (above (a .tree) row)) floor-a)
+      ∙ ap (chosenWords c (newStamp (b .clock)) mark (sheetWords w (x .a))) (floor-words w (x .b) f)
+      ∙ choice-words w c (newStamp (b .clock)) mark (x .a) (record { row = x .b .row; floor = f })
+
+  -- the counter afterwards
+  clock-after : (n k : ℕ) → n ≡ cond (stamps c) (suc (b .clock .counter)) 0 → k ≡ cond (eqb n 0) (b .clock .counter) n → _≡_ {A = Clock} (record { device = b .clock .device; counter = k }) (cond (stamps c) (ticked (b .clock)) (b .clock))
+  clock-after n k e f = ap (λ (z : ℕ). record { device = b .clock .device; counter = z }) (f ∙ ap (λ z. cond (eqb z 0) (b .clock .counter) z) e) ∙ go (stamps c)
+    where
+      go : (y : Bool) → _≡_ {A = Clock} (record { device = b .clock .device; counter = cond (eqb (cond y (suc (b .clock .counter)) 0) 0) (b .clock .counter) (cond y (suc (b .clock .counter)) 0) }) (cond y (ticked (b .clock)) (b .clock))
+      go true = ap (λ z. record { device = b .clock .device; counter = cond z (b .clock .counter) (suc (b .clock .counter)) }) (ne-eqb (suc (b .clock .counter)) 0 (λ z. omega arith))
+      go false = refl
+
+  settle-done : (n k : ℕ) → n ≡ cond (stamps c) (suc (b .clock .counter)) 0 → k ≡ cond (eqb n 0) (b .clock .counter) n
+      → _≡_ {A = Table} (record { clock = record { device = b .clock .device; counter = k }; tree = graft (b .tree) row (sheet after end) }) (settleDone a b row c mark)
+  unfolding settleDone mapped
+  settle-done n k e f =
+      ap₂ (λ (z : Clock) g. record { clock = z; tree = graft (b .tree) row (mapped (settleSheet (a .clock) (b .clock) (above (a .tree) row) c mark) (λ y. y .b) g) }) (clock-after n k e f)
+      (sym (sheet-alone (zip (a .tree) (b .tree)) row x (sheets .is)))
+
+  -- A SETTLING IN PLACE: the row's part came back settled, and the counter is set
+  pub settle-changed : (v : Vec) (e : List ℕ) (n k : ℕ) → v ≡ full (a .clock) (above (a .tree) row) (floorOf w (rowAt w s row))
+      → e ≡ settledWords w (b .clock) v c mark (take ((row + 1) * wide w + wide w - (row + 1) * wide w) (drop ((row + 1) * wide w) s)) (take ((row + 1) * wide w + wide w - (row + 1) * wide w) (drop ((row + 1) * wide w) t))
+      → n ≡ cond (stamps c) (suc (b .clock .counter)) 0 → k ≡ cond (eqb n 0) (b .clock .counter) n
+      → Changed w t (set (putMid ((row + 1) * wide w) ((row + 1) * wide w + wide w - (row + 1) * wide w) t e) 1 k) row (settleDone a b row c mark)
+  settle-changed v e n k known wrote made count =
+      subst (Changed w t _ row) (settle-done n k made count) (sheet-changed w t row target-at after after-fine e (after-words v e known wrote) k)

@@ -1,0 +1,5 @@
+pub mod Listed
+pub mod Shaped
+pub mod LaterCounts
+pub mod Sizes
+pub mod TwoTables

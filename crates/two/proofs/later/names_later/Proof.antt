@@ -1,0 +1,110 @@
+-- The loop's invariant: a floor names a later count exactly where one from the row on does.
+use Rattle.paper.specs.Tree.{later}
+use Rattle.paper.specs.Words.{tableOf}
+use Rattle.laws.proofs.Tables.{Checked, check-facts}
+use Rattle.order.proofs.RowPlaces.{Begins, begins}
+use Rattle.two.proofs.LaterCounts.{laterOn, later-all, later-here, later-next, later-end}
+use borrow.Author.Needs.{needs}
+use native.Mathlib.Omega.{arith}
+use Prim.Native.Nat.{_-_, _≤_}
+use mathlib.Core.Path.{_≡_, sym, _∙_}
+use Rattle.two.proofs.later.names_later.Statement.{statement}
+use Rattle.two.proofs.later.names_later.Tie as tie
+
+abbrev Inv-loop : tie.InvT-loop
+Inv-loop table clock columns width rows column row₀ row = (row ≤ rows) × Checked columns table × (later clock (tableOf columns table .tree) ≡ laterOn columns clock table row)
+
+abbrev μ-loop : tie.MeasureT-loop
+μ-loop table clock columns width rows column row₀ row = rows - row
+
+-- where the row stands
+at : (c : tie.In-loop Inv-loop μ-loop) → Begins (c .before .before .before .before .args .columns) (c .before .before .before .before .args .table .now) (c .before .loop .row)
+at c = let start = c .before .before .before .before in begins (start .args .columns) (start .args .table .now) (c .before .loop .row) (start .pre .2) (start .pre .0) (omega arith)
+
+mul-width : tie.Need-mul-width Inv-loop μ-loop
+mul-width c = let h = c .pre .2 in omega arith
+
+add-width : tie.Need-add-width Inv-loop μ-loop
+add-width c = let h = c .pre .2 in omega arith
+
+shared-slice-read-rows : tie.Need-shared-slice-read-rows Inv-loop μ-loop
+shared-slice-read-rows c = let start = c .before in omega (arith, check-facts (start .args .columns) (start .args .table .now) (start .pre .0) .head .long)
+
+cast-rows : tie.Need-cast-rows Inv-loop μ-loop
+cast-rows c = omega (arith, c .shared-slice-known .given 2)
+
+cast-column : tie.Need-cast-column Inv-loop μ-loop
+cast-column c = search needs
+
+add-column : tie.Need-add-column Inv-loop μ-loop
+add-column c = search needs
+
+loop-holds : tie.Need-loop-holds Inv-loop μ-loop
+loop-holds c =
+    let start = c .before .before in
+    let t = start .args .table .now in
+    let k = check-facts (start .args .columns) t (start .pre .0) in
+    (search needs, k, later-all (start .args .columns) (start .args .clock) t k)
+
+add-at : tie.Need-add-at Inv-loop μ-loop
+add-at c = search needs
+
+mul-at : tie.Need-mul-at Inv-loop μ-loop
+mul-at c = let r = at c in omega (arith, r .room, r .few)
+
+add-if1 : tie.Need-add-if1 Inv-loop μ-loop
+add-if1 c = let r = at c in omega (arith, r .room, r .few, c .before .before .before .before .pre .1, c .before .before .before .before .pre .2)
+
+mul-if1 : tie.Need-mul-if1 Inv-loop μ-loop
+mul-if1 c = let r = at c in omega (arith, r .room, r .few)
+
+shared-slice-read-if1 : tie.Need-shared-slice-read-if1 Inv-loop μ-loop
+shared-slice-read-if1 c = let r = at (c .before) in omega (arith, r .room, c .before .before .before .before .before .pre .1)
+
+returns : tie.Need-returns Inv-loop μ-loop
+returns c =
+    let here = c .before .before .before .before in
+    let start = here .before .before .before in
+    sym (here .loop .inv .2 ∙ later-here (start .args .columns) (start .args .clock) (start .args .table .now) (here .loop .row) (omega arith) (start .pre .1) (omega arith))
+
+add-row : tie.Need-add-row Inv-loop μ-loop
+add-row c = search needs
+
+loop-less : tie.Need-loop-less Inv-loop μ-loop
+loop-less c = search needs
+
+loop-again : tie.Need-loop-again Inv-loop μ-loop
+loop-again c =
+    let here = c .before .before .before .before in
+    let start = here .before .before .before in
+    (search needs, here .loop .inv .1, here .loop .inv .2 ∙ later-next (start .args .columns) (start .args .clock) (start .args .table .now) (here .loop .row) (omega arith) (start .pre .1) (omega arith))
+
+returns-2 : tie.Need-returns-2 Inv-loop μ-loop
+returns-2 c =
+    let here = c .before in
+    let start = here .before .before .before in
+    sym (here .loop .inv .2 ∙ later-end (start .args .columns) (start .args .clock) (start .args .table .now) (here .loop .row) (omega arith))
+
+pub names-later-spec : {M : Type 1} → statement M
+names-later-spec =
+    tie.close
+    (tie.spec
+    Inv-loop
+    μ-loop
+    mul-width
+    add-width
+    shared-slice-read-rows
+    cast-rows
+    cast-column
+    add-column
+    loop-holds
+    add-at
+    mul-at
+    add-if1
+    mul-if1
+    shared-slice-read-if1
+    returns
+    add-row
+    loop-less
+    loop-again
+    returns-2)

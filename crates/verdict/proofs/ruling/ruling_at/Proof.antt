@@ -1,0 +1,117 @@
+-- The two rows' words and known times decide; a folder is known by the target's kind.
+use Rattle.verdict.specs.SaidOf.{saidOf}
+use Rattle.two.proofs.Listed.{word-at, row-cut}
+use Rattle.two.proofs.TwoTables.{paired, two-room}
+use Rattle.verdict.proofs.SheetAt.{ruling-none, ruling-some}
+use native.Mathlib.Omega.{arith}
+use mathlib.Core.Path.{sym, ap, ap₂, _∙_}
+use mathlib.Core.Option.{some}
+use Rattle.paper.specs.Columns.{vec, covers}
+use Rattle.paper.specs.Rules.{ruling}
+use Rattle.paper.specs.Words.{rowOf}
+use borrow.Author.Needs.{needs}
+use Rattle.verdict.proofs.ruling.ruling_at.Statement.{statement}
+use Rattle.verdict.proofs.ruling.ruling_at.Tie as tie
+
+mul-width : tie.Need-mul-width
+mul-width c = let h = c .before .before .pre .1 in omega arith
+
+add-width : tie.Need-add-width
+add-width c = let h = c .before .before .pre .1 in omega arith
+
+add-at : tie.Need-add-at
+add-at c = omega (arith, two-room (c .before .before .args .columns) _ _ _ (c .before .before .pre .0))
+
+mul-at : tie.Need-mul-at
+mul-at c = omega (arith, two-room (c .before .before .args .columns) _ _ _ (c .before .before .pre .0))
+
+add-end : tie.Need-add-end
+add-end c = omega (arith, two-room (c .before .before .args .columns) _ _ _ (c .before .before .pre .0))
+
+add-if1 : tie.Need-add-if1
+add-if1 c = omega (arith, two-room (c .before .before .args .columns) _ _ _ (c .before .before .pre .0))
+
+mul-if1 : tie.Need-mul-if1
+mul-if1 c = omega (arith, two-room (c .before .before .args .columns) _ _ _ (c .before .before .pre .0))
+
+shared-slice-read-if1 : tie.Need-shared-slice-read-if1
+shared-slice-read-if1 c = omega (arith, two-room (c .before .before .before .args .columns) _ _ _ (c .before .before .before .pre .0))
+
+returns : tie.Need-returns
+returns c =
+    let start = c .before .before .before .before in
+    let s = start .args .source .now in
+    let t = start .args .target .now in
+    let row = start .args .row in
+    let p = paired (start .args .columns) s t row (start .pre .0) in
+    ruling-none (start .args .columns) s t (p .source) (p .target) row (p .inSource) (p .inTarget) (p .shaped) (word-at (start .args .columns) t row 0 (omega arith) ∙ c .if1 .taken)
+
+known-time-requires : tie.Need-known-time-requires
+known-time-requires c κs = let p = paired (c .before .before .before .before .args .columns) _ _ _ (c .before .before .before .before .pre .0) in ((p .source, c .before .before .before .before .pre .1), p .inSource)
+
+known-time-requires-2 : tie.Need-known-time-requires-2
+known-time-requires-2 c κs = let p = paired (c .before .before .before .before .before .args .columns) _ _ _ (c .before .before .before .before .before .pre .0) in ((p .target, c .before .before .before .before .before .pre .1), p .inTarget)
+
+mul-judge : tie.Need-mul-judge
+mul-judge c = omega (arith, two-room (c .before .before .before .before .before .before .args .columns) _ _ _ (c .before .before .before .before .before .before .pre .0))
+
+sub-judge : tie.Need-sub-judge
+sub-judge c = search needs
+
+part-judge-start : tie.Need-part-judge-start
+part-judge-start c = search needs
+
+part-judge-end : tie.Need-part-judge-end
+part-judge-end c = omega (arith, two-room (c .before .before .before .before .before .before .args .columns) _ _ _ (c .before .before .before .before .before .before .pre .0))
+
+mul-judge-2 : tie.Need-mul-judge-2
+mul-judge-2 c = omega (arith, two-room (c .before .before .before .before .before .before .before .args .columns) _ _ _ (c .before .before .before .before .before .before .before .pre .0))
+
+sub-judge-2 : tie.Need-sub-judge-2
+sub-judge-2 c = search needs
+
+part-judge-start-2 : tie.Need-part-judge-start-2
+part-judge-start-2 c = search needs
+
+part-judge-end-2 : tie.Need-part-judge-end-2
+part-judge-end-2 c = omega (arith, two-room (c .before .before .before .before .before .before .before .args .columns) _ _ _ (c .before .before .before .before .before .before .before .pre .0))
+
+judge-requires : tie.Need-judge-requires
+judge-requires c κs = search needs
+
+returns-2 : tie.Need-returns-2
+returns-2 c =
+    let start = c .before .before .before .before .before .before .before .before .before in
+    let s = start .args .source .now in
+    let t = start .args .target .now in
+    let row = start .args .row in
+    let times = c .before .before .before in
+    let p = paired (start .args .columns) s t row (start .pre .0) in
+    ap some (c .judge .ensures ∙ ap₂ (λ x y. ruling covers (record { row = rowOf x; known = vec (times .before .known-time .result .0) }) (record { row = rowOf y; known = vec (times .known-time2 .result .0) })) (row-cut (start .args .columns) s row) (row-cut (start .args .columns) t row))
+    ∙ ruling-some (start .args .columns) s t (p .source) (p .target) row (p .inSource) (p .inTarget) (p .shaped) (λ e. times .before .before .if1 .left (sym (word-at (start .args .columns) t row 0 (omega arith)) ∙ e)) _ _ (times .before .known-time .ensures) (times .known-time2 .ensures)
+
+pub ruling-at-spec : {M : Type 1} → statement M
+ruling-at-spec =
+    tie.close
+    (tie.spec
+    mul-width
+    add-width
+    add-at
+    mul-at
+    add-end
+    add-if1
+    mul-if1
+    shared-slice-read-if1
+    returns
+    known-time-requires
+    known-time-requires-2
+    mul-judge
+    sub-judge
+    part-judge-start
+    part-judge-end
+    mul-judge-2
+    sub-judge-2
+    part-judge-start-2
+    part-judge-end-2
+    judge-requires
+    returns-2)

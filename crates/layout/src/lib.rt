@@ -73,13 +73,13 @@ fn is_laid(r: &[u32], columns: usize) -> bool
 {
     let kind = r[Row::KIND];
     let stamp = stamp_of(r);
-    if kind == 1 {
+    if kind == Row::LIVE {
         if !is_proper(stamp, columns) {
             return false;
         }
         return is_proper(birth_of(r), columns);
     }
-    if kind == 2 {
+    if kind == Row::REMOVED {
         if !is_proper(stamp, columns) {
             return false;
         }
@@ -114,13 +114,13 @@ fn is_known(r: &[u32], clock: Clock, u: Vector, columns: usize) -> bool
 {
     let kind = r[Row::KIND];
     let stamp = stamp_of(r);
-    if kind == 1 {
+    if kind == Row::LIVE {
         if !is_covered(r, clock, u, stamp, columns) {
             return false;
         }
         return is_covered(r, clock, u, birth_of(r), columns);
     }
-    if kind == 2 {
+    if kind == Row::REMOVED {
         return is_covered(r, clock, u, stamp, columns);
     }
     true
@@ -155,7 +155,7 @@ fn narrow_sheet_fits(r: &[u32], clock: Clock, u: Vector) -> bool
     if !is_laid(r, Narrow::COLUMNS) {
         return false;
     }
-    if r[7] != 0 {
+    if r[Row::SPARE] != 0 {
         return false;
     }
     if !is_own_zero(r, clock, Narrow::COLUMNS) {
@@ -175,7 +175,7 @@ fn wide_sheet_fits(r: &[u32], clock: Clock, u: Vector) -> bool
     if !is_laid(r, Wide::COLUMNS) {
         return false;
     }
-    if r[7] != 0 {
+    if r[Row::SPARE] != 0 {
         return false;
     }
     if !is_own_zero(r, clock, Wide::COLUMNS) {

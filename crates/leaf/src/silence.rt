@@ -1,4 +1,5 @@
 // The answers of a folder that is passed over and of all beneath it: sheets get 0 and folders 5.
+use vector::row::Row;
 ghost use mathlib.Core.Path.{_≡_};
 ghost use Prim.Native.Nat.{_*_, _<_};
 ghost use lib.ListN.{length};
@@ -8,7 +9,7 @@ ghost use Rattle.leaf.specs.Leaves.{silentKind, silentAt};
 fn answer(kind: u32) -> u32
     ensures { λ r. ⌜ r ≡ silentKind kind ⌝ }
 {
-    if kind == 3 { 5 } else { 0 }
+    if kind == Row::FOLDER { 5 } else { 0 }
 }
 
 // An answer for each row of a part, whose rows have so many words.

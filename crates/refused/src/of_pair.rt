@@ -5,6 +5,7 @@ use table::head::clock_of;
 use table::head::columns_of;
 use two::later::names_later;
 use two::shape::same_shape;
+use vector::head::Head;
 use vector::row::Row;
 use verdict::ruling::ruling_at;
 ghost use mathlib.Core.Path.{_≡_};
@@ -12,7 +13,7 @@ ghost use Prim.Native.Nat.{_≤_};
 ghost use Rattle.paper.specs.Acts.{stamps};
 ghost use Rattle.paper.specs.Words.{tableOf};
 ghost use Rattle.paper.specs.Check.{checkOf};
-ghost use Rattle.paper.specs.Calls.{twoRefused, passRefused, choiceNamed, settleRefused, standingRefused};
+ghost use Rattle.paper.specs.Calls.{twoRefused, passRefused, choiceNamed, settleRefused};
 ghost use Rattle.paper.specs.Widths.{widthOf};
 ghost use Rattle.paper.specs.Devices.{devices};
 ghost use Rattle.two.specs.Unlike.{unlikeOf, widthsThen};
@@ -36,7 +37,7 @@ fn unlike(source: &[u32], target: &[u32], row: u32, columns: usize) -> u32
     if names_later(target, a, columns) {
         return 7;
     }
-    if target[2] <= row {
+    if target[Head::ROWS] <= row {
         return 8;
     }
     0
@@ -77,21 +78,6 @@ pub fn pass_refused(source: &[u32], target: &[u32], row: u32, answers: &[u32]) -
     0
 }
 
-// As a pass up to 8, then 10.
-pub fn standing_refused(source: &[u32], target: &[u32], row: u32) -> u32
-    ensures { λ r. ⌜ r ≡ widthsThen (now (source .entry)) (now (target .entry)) (standingRefused (widthOf (now (target .entry))) (now (source .entry)) (now (target .entry)) row) ⌝ }
-{
-    let number = two_refused(source, target, row);
-    if number != 0 {
-        return number;
-    }
-    let said = ruling_at(source, target, row as usize, columns_of(target));
-    if said.is_folder() {
-        return 10;
-    }
-    0
-}
-
 // Whether a choice makes a new stamp.
 pub fn is_stamping(choice: u32) -> bool
     ensures { λ r. ⌜ r ≡ stamps (choiceNamed choice) ⌝ }
@@ -121,7 +107,7 @@ pub fn settle_refused(source: &[u32], target: &[u32], row: u32, choice: u32) -> 
         return 14;
     }
     if is_stamping(choice) {
-        if target[1] == 4294967295 {
+        if target[Head::COUNTER] == Head::LAST_COUNT {
             return 15;
         }
     }

@@ -2,6 +2,7 @@
 use plan::plan_fits;
 use table::check::check;
 use table::head::columns_of;
+use vector::head::Head;
 use vector::row::Row;
 use vector::row::Wide;
 ghost use mathlib.Core.Path.{_≡_};
@@ -10,7 +11,7 @@ ghost use lib.Dec.{eqb};
 ghost use Prim.Native.Nat.{_≤_};
 ghost use Rattle.paper.specs.Acts.{fits};
 ghost use Rattle.paper.specs.Words.{kindOf};
-ghost use Rattle.paper.specs.Calls.{newRefused, eventNamed, eventRefused, beneathRefused};
+ghost use Rattle.paper.specs.Calls.{newRefused, eventNamed, eventRefused};
 ghost use Rattle.paper.specs.Widths.{widthOf, eightOrSixteen, widenRefused};
 ghost use Rattle.paper.specs.Devices.{devices};
 
@@ -53,7 +54,7 @@ pub fn widen_refused(table: &[u32], wider: &[u32]) -> u32
     if columns_of(table) == Wide::COLUMNS {
         return 19;
     }
-    if wider.len() != table[2] as usize * Wide::WIDTH + Wide::WIDTH {
+    if wider.len() != table[Head::ROWS] as usize * Wide::WIDTH + Wide::WIDTH {
         return 9;
     }
     0
@@ -63,13 +64,13 @@ pub fn widen_refused(table: &[u32], wider: &[u32]) -> u32
 pub fn fits_kind(event: u32, kind: u32) -> bool
     ensures { λ r. ⌜ r ≡ cond (eqb kind 3) false (fits (eventNamed event) (kindOf kind)) ⌝ }
 {
-    if kind == 3 {
+    if kind == Row::FOLDER {
         return false;
     }
     if event == 1 {
-        return kind != 1;
+        return kind != Row::LIVE;
     }
-    kind == 1
+    kind == Row::LIVE
 }
 
 // The first refusal of an event: 1, 2, 3, 16, 8, 10, 15.
@@ -86,7 +87,7 @@ pub fn event_refused(table: &[u32], row: u32, event: u32) -> u32
     if 3 < event {
         return 16;
     }
-    if table[2] <= row {
+    if table[Head::ROWS] <= row {
         return 8;
     }
     let width = Row::FLOOR + 4 * columns_of(table);
@@ -94,27 +95,8 @@ pub fn event_refused(table: &[u32], row: u32, event: u32) -> u32
     if !fits_kind(event, table[at]) {
         return 10;
     }
-    if table[1] == 4294967295 {
+    if table[Head::COUNTER] == Head::LAST_COUNT {
         return 15;
-    }
-    0
-}
-
-// The first refusal of a showing of the rows beneath a folder: 1, 2, 3, 8.
-pub fn beneath_refused(table: &[u32], row: u32) -> u32
-    ensures { λ r. ⌜ r ≡ beneathRefused (widthOf (now (table .entry))) (now (table .entry)) row ⌝ }
-{
-    let number = check(table);
-    if number != 0 {
-        return number;
-    }
-    if table[2] <= row {
-        return 8;
-    }
-    let width = Row::FLOOR + 4 * columns_of(table);
-    let at = (row as usize + 1) * width;
-    if table[at] != 3 {
-        return 8;
     }
     0
 }

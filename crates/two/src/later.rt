@@ -1,5 +1,6 @@
 // Refusals 6 and 7: later counts than a counter.
 use paper::Clock;
+use vector::head::Head;
 use vector::row::Row;
 ghost use mathlib.Core.Path.{_≡_};
 ghost use Prim.Native.Nat.{_≤_, _<_};
@@ -14,7 +15,7 @@ pub fn names_later(table: &[u32], clock: Clock, columns: usize) -> bool
     ensures { λ r. ⌜ r ≡ later clock (tableOf columns (now (table .entry)) .tree) ⌝ }
 {
     let width = Row::FLOOR + 4 * columns;
-    let rows = table[2] as usize;
+    let rows = table[Head::ROWS] as usize;
     let column = Row::FLOOR + clock.device as usize;
     let mut row = 0;
     while row < rows {

@@ -1,4 +1,5 @@
 // Refusal 4: sizes and folder places.
+use vector::head::Head;
 use vector::row::Row;
 ghost use mathlib.Core.Path.{_≡_};
 ghost use Prim.Native.Nat.{_+_, _*_, _≤_};
@@ -16,7 +17,7 @@ fn plan_number(t: &[u32], row: usize, columns: usize) -> u32
     ensures { λ r. ⌜ r ≡ planNumber (rowAt columns (now (t .entry)) row) ⌝ }
 {
     let at = (row + 1) * (Row::FLOOR + 4 * columns);
-    if t[at + Row::KIND] != 3 {
+    if t[at + Row::KIND] != Row::FOLDER {
         return 0;
     }
     t[at + Row::SIZE]
@@ -27,7 +28,7 @@ pub fn same_shape(source: &[u32], target: &[u32], columns: usize) -> bool
     requires { ⌜ (checkOf columns (now source) ≡ 0) × (checkOf columns (now target) ≡ 0) × (columns ≤ devices) ⌝ }
     ensures { λ r. ⌜ r ≡ shaped (tableOf columns (now (source .entry)) .tree) (tableOf columns (now (target .entry)) .tree) ⌝ }
 {
-    let rows = source[2] as usize;
+    let rows = source[Head::ROWS] as usize;
     if source.len() != target.len() {
         return false;
     }

@@ -1,7 +1,7 @@
 // What the rules say at one row of two tables that are accepted.
 use known::known_time;
-use paper::Ruling;
 use leaf::ruling::judge;
+use paper::Ruling;
 use vector::row::Row;
 ghost use mathlib.Core.Path.{_≡_};
 ghost use Rattle.paper.specs.Words.{tableOf};
@@ -68,7 +68,7 @@ pub fn ruling_at(source: &[u32], target: &[u32], row: usize, columns: usize) -> 
     let width = Row::FLOOR + 4 * columns;
     let at = (row + 1) * width;
     let end = at + width;
-    if target[at + Row::KIND] == 3 {
+    if target[at + Row::KIND] == Row::FOLDER {
         return Said::Folder;
     }
     let ka = known_time(source, row, columns);

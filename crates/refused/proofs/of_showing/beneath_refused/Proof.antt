@@ -17,8 +17,8 @@ use lib.Dec.{eqb}
 use lib.ListN.{getD}
 use Rattle.refused.proofs.Beneath.{beneath-check, beneath-by, folder-word}
 use borrow.Author.Needs.{needs}
-use Rattle.refused.proofs.of_table.beneath_refused.Statement.{statement}
-use Rattle.refused.proofs.of_table.beneath_refused.Tie as tie
+use Rattle.refused.proofs.of_showing.beneath_refused.Statement.{statement}
+use Rattle.refused.proofs.of_showing.beneath_refused.Tie as tie
 
 -- past the check
 abbrev one : tie.Else1 → tie.Start

@@ -9,8 +9,8 @@ use Rattle.verdict.specs.SaidOf.{saidOf}
 use Rattle.refused.proofs.Settling.{standing-any, standing-by}
 use mathlib.Core.Path.{_≡_, sym, ap, _∙_}
 use borrow.Author.Needs.{needs}
-use Rattle.refused.proofs.of_pair.standing_refused.Statement.{statement}
-use Rattle.refused.proofs.of_pair.standing_refused.Tie as tie
+use Rattle.refused.proofs.of_showing.standing_refused.Statement.{statement}
+use Rattle.refused.proofs.of_showing.standing_refused.Tie as tie
 
 -- past what refuses two tables: nothing does, neither their widths nor what is asked at their one width
 abbrev from : tie.Else1 → tie.Start

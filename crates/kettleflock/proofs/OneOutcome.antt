@@ -26,6 +26,7 @@ use Rattle.kettleflock.proofs.showing.standing_answer as standing-answe
 use Rattle.kettleflock.proofs.showing.standing_side as standing-side
 use Rattle.kettleflock.proofs.showing.beneath as beneath
 use Rattle.kettleflock.proofs.showing.standing as standing
+use Rattle.kettleflock.proofs.exports.kf_version as kf-version
 use Rattle.kettleflock.proofs.exports.kf_check as kf-check
 use Rattle.kettleflock.proofs.exports.kf_new as kf-new
 use Rattle.kettleflock.proofs.exports.kf_widen as kf-widen
@@ -69,6 +70,7 @@ module _ {M : Type 1} (𝓤 : URA M) where
       pub standing-side : One standing-side.ended (standing-side.clauses 𝓤 H A m f)
       pub beneath : Settles beneath.ended (λ κs x y. (x .now ≡ y .now) × (x .ptr ≡ y .ptr)) (beneath.clauses 𝓤 H A m f)
       pub standing : Settles standing.ended (λ κs x y. (x .now ≡ y .now) × (x .ptr ≡ y .ptr)) (standing.clauses 𝓤 H A m f)
+      pub kf-version : One kf-version.ended (kf-version.clauses 𝓤 H A m f)
       pub kf-check : One kf-check.ended (kf-check.clauses 𝓤 H A m f)
       pub kf-new : One kf-new.ended (kf-new.clauses 𝓤 H A m f)
       pub kf-widen : One kf-widen.ended (kf-widen.clauses 𝓤 H A m f)
@@ -124,6 +126,7 @@ one-outcome 𝓤 H A m f = record {
   standing-side = plain 𝓤 _ _ _ (λ κs a x y u v. by side (λ o. (tt, (tt, (tt, tt)))));
   beneath = plain 𝓤 _ _ _ (λ κs a x y u v. part);
   standing = plain 𝓤 _ _ _ (λ κs a x y u v. part);
+  kf-version = plain 𝓤 _ _ _ (λ κs a x y u v. by side (λ o. tt));
   kf-check = plain 𝓤 _ _ _ (λ κs a x y u v. by answered (λ o. (tt, tt)));
   kf-new = plain 𝓤 _ _ _ (λ κs a x y u v. by changed (λ o. (tt, (tt, (tt, (o .table, tt))))));
   kf-widen = plain 𝓤 _ _ _ (λ κs a x y u v. by changed (λ o. (tt, (o .table, tt))));

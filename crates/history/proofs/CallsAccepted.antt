@@ -2,25 +2,24 @@
 -- one shape and two devices, and the changed table is good again.
 use Prim.{tt}
 use Prim.Native.Nat.{ℕ, suc, _≤_, _<_}
-use mathlib.Core.Path.{_≡_, refl, sym, ap, ap₂, _∙_, subst}
+use mathlib.Core.Path.{_≡_, refl, sym, ap, _∙_, subst}
 use mathlib.Core.Bool.{Bool, true, false, cond, false≢true}
 use mathlib.Core.List.{List}
 use mathlib.Core.Option.{Option, none, some, Option·map}
 use native.Mathlib.Omega.{arith}
 use lib.ListN.{length}
 use borrow.Author.Tests.{leb-false}
-use Rattle.paper.specs.declared.Clock.{Clock}
 use Rattle.paper.specs.declared.Ruling.{Ruling}
 use Rattle.paper.specs.declared.Ruling.the-variants.{KeepOwn, KeepTheirs, Copy, Remove, Conflict}
-use Rattle.paper.specs.Columns.{Vec, zeros, greatest, Narrow}
+use Rattle.paper.specs.Columns.{zeros, greatest, Narrow}
 use Rattle.paper.specs.Rules.{ruling}
 use Rattle.paper.specs.Acts.{Event, fits, Choice, stamps}
-use Rattle.paper.specs.Tree.{Forest, end, sheet, folder, mapped, size, levels, subtree, graft, sheetHere, shaped, Sheet, above, later, fullLeast}
-use Rattle.paper.specs.Walk.{Two, Pair, zip, left, right, raised, ruleAt, over, walk, answers, looked}
+use Rattle.paper.specs.Tree.{Forest, end, sheet, mapped, size, levels, subtree, graft, sheetHere, shaped, Sheet, above, later}
+use Rattle.paper.specs.Walk.{Two, zip, left, right, ruleAt, walk, answers, looked}
 use Rattle.paper.specs.Words.{Table, tableOf, written}
 use Rattle.paper.specs.Check.{checkOf}
 use Rattle.paper.specs.Good.{rooted, GoodSheet, Good, GoodTable}
-use Rattle.paper.specs.Calls.{Changed, Passed, eventNamed, fitsSheet, newStamp, ticked, eventRefused, eventSheet, eventDone, eventOf, twoRefused, pairAt, passRefused, passDone, passOf, rulingHere, choiceNamed, conflicts, settleRefused, settleSheet, settleDone, settleOf}
+use Rattle.paper.specs.Calls.{Changed, Passed, eventNamed, fitsSheet, newStamp, ticked, eventRefused, eventSheet, eventDone, eventOf, twoRefused, pairAt, passRefused, passDone, rulingHere, choiceNamed, conflicts, settleRefused, settleSheet, settleDone}
 use Rattle.laws.proofs.Calls
 use Rattle.laws.proofs.Calls.{event-number, pass-number, settle-number, event-done, pass-done, settle-done, Accepted, two-accepted}
 use Rattle.laws.proofs.Refusals.{first-both, when-none, none-so}

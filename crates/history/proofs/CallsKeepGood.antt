@@ -11,7 +11,7 @@ use Rattle.paper.specs.declared.Stamp.{Stamp}
 use Rattle.paper.specs.declared.Ruling.{Ruling}
 use Rattle.paper.specs.declared.Ruling.the-variants.{KeepOwn, KeepTheirs, Copy, Remove, Conflict}
 use Rattle.paper.specs.Columns.{Vec, greatest, full, covers, Narrow}
-use Rattle.paper.specs.Rules.{Kind, never, live, removed, Row, takes, joins}
+use Rattle.paper.specs.Rules.{Kind, never, live, removed, Row}
 use Rattle.paper.specs.Acts.{Event, creates, changes, removes, isLive, fits, eventRow, Choice, theirs, own, new, stamps, settleRow}
 use Rattle.paper.specs.Tree.{end, sheet, folder, mapped, Sheet, Tree, later, least, fullLeast}
 use Rattle.paper.specs.Walk

@@ -12,7 +12,7 @@ use Rattle.paper.specs.declared.Ruling.{Ruling}
 use Rattle.paper.specs.declared.Ruling.the-variants.{KeepOwn, KeepTheirs, Copy, Remove, Conflict}
 use Rattle.paper.specs.declared.Stamp.{Stamp}
 use Rattle.paper.specs.Columns.{Vec, covers}
-use Rattle.paper.specs.Rules.{Kind, never, live, removed, Row, Heard, news, rule, Cell, ruling, takes, joins}
+use Rattle.paper.specs.Rules.{Kind, never, live, removed, Row, Heard, news, rule, Cell, ruling}
 use Rattle.paper.specs.Acts.{own}
 use Rattle.laws.proofs.Bools.{and-both}
 use Rattle.history.specs.Knowledge.{vectors, sets, same, ruled, passed}

@@ -12,7 +12,6 @@ use Rattle.paper.specs.declared.Clock.{Clock}
 use Rattle.paper.specs.declared.Ruling.{Ruling}
 use Rattle.paper.specs.declared.Ruling.the-variants.{KeepOwn, KeepTheirs, Copy, Remove, Conflict}
 use Rattle.paper.specs.Columns.{Vec, zeros, greatest, full}
-use Rattle.paper.specs.Rules.{joins}
 use Rattle.paper.specs.Tree.{end, sheet, folder, mapped, subtree, graft, Sheet, Tree, above, later, greatestOf, least, fullLeast}
 use Rattle.paper.specs.Walk
 use Rattle.paper.specs.Walk.{Two, Pair, left, right, raised, ruleAt, over, walk}

@@ -15,7 +15,7 @@ use Rattle.paper.specs.Check.{checkOf}
 use Rattle.paper.specs.Widths.{widthOf, tableAny, twoWidths, passAny}
 use Rattle.laws.proofs.Widths.{pass-through, pass-stopped}
 use Rattle.paper.specs.Refusals.{first, when, tens}
-use Rattle.paper.specs.Calls.{isFolder, twoRefused, passRefused, passOf, Passed}
+use Rattle.paper.specs.Calls.{isFolder, twoRefused, passRefused, Passed}
 use Rattle.laws.proofs.Calls.{pass-number}
 use Rattle.laws.proofs.Refusals.{first-next, when-false, unless-so}
 use Rattle.laws.proofs.Forests.{shape, shape-size, shape-shaped}

@@ -1,18 +1,17 @@
 -- Laws of the calls: the number returned is the refusal's; a refused call leaves its buffers as they were; what two
 -- tables that are accepted are like.
-use Prim.Native.Nat.{ℕ, zero, suc, _+_, _<_, _≤_}
-use mathlib.Core.Path.{_≡_, refl, sym, ap, _∙_}
-use mathlib.Core.List.{List, [], _∷_}
-use mathlib.Core.Bool.{Bool, true, false, not, cond}
+use Prim.Native.Nat.{ℕ, suc, _<_}
+use mathlib.Core.Path.{_≡_, _∙_}
+use mathlib.Core.List.{List}
+use mathlib.Core.Bool.{true, false, cond}
 use native.Mathlib.Omega.{arith}
-use lib.Dec.{leb, eqb}
 use borrow.Author.Tests.{eqb-true, eqb-false, leb-false}
 use lib.ListN.{length}
 use Rattle.paper.specs.Tree.{size, subtree, shaped, above, later}
 use Rattle.paper.specs.Walk.{answers, looked}
-use Rattle.paper.specs.Acts.{Choice, stamps}
-use Rattle.paper.specs.Words.{Table, tableOf, written}
-use Rattle.paper.specs.Refusals.{unless, tens}
+use Rattle.paper.specs.Acts.{stamps}
+use Rattle.paper.specs.Words.{tableOf, written}
+use Rattle.paper.specs.Refusals.{tens}
 use Rattle.paper.specs.Check.{checkOf}
 use Rattle.paper.specs.Good.{GoodTable}
 use Rattle.paper.specs.Calls.{Changed, Passed, newRefused, newOf, eventNamed, eventRefused, eventDone, eventOf, twoRefused, pairAt, passRefused, passDone, passOf, choiceNamed, settleRefused, settleDone, settleOf}

@@ -1,9 +1,9 @@
 -- The rules of rows: the rows of a good tree pass, and rows that pass are the rows of a good tree.
-use Prim.{Unit, tt}
-use Prim.Native.Nat.{ℕ, zero, suc, _+_, _-_, _*_, _≤_, _<_}
+use Prim.{tt}
+use Prim.Native.Nat.{ℕ, suc, _+_, _-_, _*_, _≤_, _<_}
 use mathlib.Core.Path.{_≡_, refl, sym, ap, ap₂, _∙_}
-use mathlib.Core.List.{List, [], _∷_, _++_}
-use mathlib.Core.Bool.{Bool, true, false, _&&_}
+use mathlib.Core.List.{List, _∷_, _++_}
+use mathlib.Core.Bool.{true}
 use native.Mathlib.Omega.{arith}
 use lib.Dec.{eqb}
 use borrow.Author.Tests.{eqb-true, eq-eqb}
@@ -11,14 +11,13 @@ use lib.ListN.{length, getD, take, drop, replicate, length-drop, take-append-dro
 use lib.Seq.{take-all, getD-take, getD-drop}
 use Rattle.paper.specs.declared.Clock.{Clock}
 use Rattle.paper.specs.Columns.{Vec, greatest, full, alike, vec, part, columns}
-use Rattle.paper.specs.Rules.{Row}
-use Rattle.paper.specs.Tree.{Forest, end, sheet, folder, mapped, size, Sheet, Tree, newest, least, most}
+use Rattle.paper.specs.Tree.{end, sheet, folder, mapped, size, Sheet, Tree, newest, least, most}
 use Rattle.paper.specs.Order.{Raw}
 use Rattle.paper.specs.Words.{wide, rowOf, floorAt, newestAt, leastAt, mostAt, floorOf, sheetOf, treeFrom, sheetWords, folderWords, folderRow, rowsOf}
 use Rattle.paper.specs.Check.{blank, laid, known, sheetFits, folderFits, rowsFit}
 use Rattle.paper.specs.Good.{GoodFloor, GoodSheet, Good}
 use Rattle.laws.proofs.Bools.{and-both, both-and}
-use Rattle.laws.proofs.Columns.{columns-at, alike-at, at-alike, Same, columns-same, columns-part, part-narrow}
+use Rattle.laws.proofs.Columns.{columns-at, alike-at, at-alike, columns-same, columns-part, part-narrow}
 use Rattle.laws.proofs.FormedRows.{SheetRow, FolderRow, Formed}
 use Rattle.laws.proofs.BlankWords.{zeros-blank, blank-zeros, blank-at, skip, eight}
 use Rattle.laws.proofs.Forests.{folder-same, mapped-size}

@@ -1,7 +1,7 @@
 -- Laws of vectors, at any number w of columns: reading them from words and writing them, and comparing them.
 use Prim.Native.Nat.{ℕ, zero, suc, _+_, _≤_, _<_, max}
 use mathlib.Core.Path.{_≡_, refl, sym, ap, ap₂, _∙_, fun-ext}
-use mathlib.Core.List.{List, [], _∷_}
+use mathlib.Core.List.{List}
 use mathlib.Core.Bool.{Bool, true, false, _&&_, cond, false≢true}
 use native.Mathlib.Omega.{arith}
 use lib.Dec.{leb, eqb}
@@ -9,7 +9,7 @@ use borrow.Author.Tests.{eqb-true, eqb-false, eq-eqb, leb-true, leb-false, le-le
 use lib.ListN.{length, getD, take, drop, length-take, length-drop, List·getD-eq-default}
 use lib.Seq.{ext-getD, length-take-le}
 use Rattle.paper.specs.declared.Clock.{Clock}
-use Rattle.paper.specs.Columns.{Vec, greatest, full, every, covered, alike, Narrow, vec, part, columns}
+use Rattle.paper.specs.Columns.{Vec, full, every, covered, alike, Narrow, vec, part, columns}
 use Rattle.laws.proofs.Bools.{and-both, both-and}
 
 -- WORDS

@@ -1,14 +1,14 @@
 -- Laws of forests: rows cut out and put back, replaced one by one, and two forests of one shape side by side.
 use Prim.{Unit, tt}
 use Prim.Native.Nat.{ℕ, zero, suc, _+_, _-_, _≤_, _<_, max}
-use mathlib.Core.Path.{_≡_, refl, sym, ap, ap₂, _∙_}
-use mathlib.Core.Bool.{Bool, true, false, _&&_, cond, false≢true}
-use mathlib.Core.Option.{Option, none, some, Option·map}
+use mathlib.Core.Path.{_≡_, refl, ap, ap₂, _∙_}
+use mathlib.Core.Bool.{Bool, true, false, cond, false≢true}
+use mathlib.Core.Option.{Option, some, Option·map}
 use native.Mathlib.Omega.{arith}
 use lib.Dec.{ltb}
 use borrow.Author.Tests.{ltb-true, ltb-false}
 use Rattle.paper.specs.Tree.{Forest, end, sheet, folder, mapped, size, levels, plus, subtree, graft, sheetHere, shaped, Tree}
-use Rattle.paper.specs.Walk.{Pair, zip, left, right}
+use Rattle.paper.specs.Walk.{zip, left, right}
 use Rattle.paper.specs.Good.{rooted}
 use Rattle.laws.proofs.Bools.{and-both, both-and}
 

@@ -9,9 +9,9 @@ use native.Mathlib.Nat.{mul-le-mul-left, zero-mul, mul-div-cancel}
 use native.Mathlib.Omega.{arith}
 use lib.Dec.{eqb}
 use borrow.Author.Tests.{eqb-true, eqb-false, eq-eqb, ne-eqb}
-use lib.ListN.{length, getD, take, drop, length-append, List·getD-append}
+use lib.ListN.{length, take, drop, length-append, List·getD-append}
 use lib.Seq.{take-at, drop-at, getD-take, drop-drop}
-use Rattle.paper.specs.Tree.{Forest, end, sheet, folder, size}
+use Rattle.paper.specs.Tree.{end, sheet, folder, size}
 use Rattle.paper.specs.Order.{kindWord, sizeWord, beneath, after, rowFits, inOrder, ordered, Raw, placed, parse, forestOf, wordsOf}
 use Rattle.laws.proofs.Bools.{and-both, both-and}
 use Rattle.laws.proofs.Order.{RowFits, fits-facts, facts-fit, row-room, row-length, beneath-length, split-part, nil-order, nil-parse}

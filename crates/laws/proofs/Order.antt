@@ -3,16 +3,16 @@
 use Prim.Native.Nat.{ℕ, zero, suc, _+_, _-_, _*_, _≤_, _<_}
 use mathlib.Core.Path.{_≡_, refl, sym, ap, ap₂, _∙_}
 use mathlib.Core.List.{List, [], _∷_, _++_}
-use mathlib.Core.Bool.{Bool, true, false, _&&_, _||_, false≢true}
+use mathlib.Core.Bool.{Bool, true, false, _&&_, _||_}
 use native.Mathlib.Nat.{mul-le-mul-right, one-mul}
 use native.Mathlib.Omega.{arith}
-use lib.Dec.{leb, ltb, eqb}
+use lib.Dec.{eqb}
 use borrow.Author.Tests.{ltb-true, leb-true, eqb-true, lt-ltb, le-leb, ne-eqb}
-use lib.ListN.{length, getD, take, drop, length-take, length-drop, take-append-drop}
-use lib.Seq.{length-take-le, getD-take, drop-drop}
-use Rattle.paper.specs.Tree.{Forest, end, sheet, folder}
-use Rattle.paper.specs.Order.{kindWord, sizeWord, beneath, after, rowFits, inOrder, ordered, Raw, placed, parse, forestOf}
-use Rattle.laws.proofs.Bools.{and-both, both-and, or-right}
+use lib.ListN.{length, take, drop, length-take, length-drop, take-append-drop}
+use lib.Seq.{length-take-le, drop-drop}
+use Rattle.paper.specs.Tree.{end, sheet}
+use Rattle.paper.specs.Order.{kindWord, sizeWord, beneath, after, rowFits, inOrder, ordered, placed, parse, forestOf}
+use Rattle.laws.proofs.Bools.{and-both, or-right}
 
 -- what `rowFits` says
 pub record RowFits (n lv : ℕ) (t : List ℕ) : Type 0 where

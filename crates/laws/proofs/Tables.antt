@@ -1,22 +1,22 @@
 -- Whole tables. The check passes exactly the written forms of good tables; a good table is read back from its words, and
 -- words that pass are written again from the table that they hold.
-use Prim.Native.Nat.{ℕ, zero, suc, _+_, _-_, _*_, _≤_, _<_, max}
+use Prim.Native.Nat.{ℕ, _+_, _-_, _*_, _≤_, _<_}
 use mathlib.Core.Path.{_≡_, refl, sym, ap, ap₂, _∙_}
 use mathlib.Core.List.{List, [], _∷_, _++_}
 use mathlib.Core.Logic.{_↔_}
-use mathlib.Core.Bool.{Bool, true, false, not, _&&_, false≢true}
+use mathlib.Core.Bool.{true, false, false≢true}
 use native.Mathlib.Omega.{arith}
-use lib.Dec.{leb, ltb, eqb}
+use lib.Dec.{eqb}
 use borrow.Author.Tests.{eqb-true, eq-eqb, leb-true, le-leb, ltb-true, lt-ltb}
 use lib.ListN.{length, getD, take, drop, replicate, length-drop, length-append, take-append-drop, List·getD-append}
 use lib.Seq.{take-at, drop-at, length-take-le}
 use Rattle.paper.specs.declared.Clock.{Clock}
 use Rattle.paper.specs.Columns.{zeros}
-use Rattle.paper.specs.Tree.{Forest, end, sheet, folder, mapped, size, levels, Sheet, Tree}
+use Rattle.paper.specs.Tree.{end, sheet, folder, mapped, size, levels, Tree}
 use Rattle.paper.specs.Order.{kindWord, sizeWord, ordered, Raw, forestOf, wordsOf}
 use Rattle.paper.specs.Words.{wide, floorOf, sheetOf, treeFrom, Table, tableOf, folderWords, rowsOf, headWords, sign, written}
 use Rattle.paper.specs.Check.{blank, headFits, orderFits, rowsFit, checkOf}
-use Rattle.paper.specs.Good.{rooted, Good, GoodTable}
+use Rattle.paper.specs.Good.{rooted, GoodTable}
 use Rattle.laws.proofs.Bools.{and-both, both-and}
 use Rattle.laws.proofs.Refusals.{first-none, first-both, first-next, unless-so, none-so}
 use Rattle.laws.proofs.FormedRows.{Formed, formed-length, formed-ordered, cancel, ordered-formed, ordered-words}

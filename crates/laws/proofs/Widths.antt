@@ -1,24 +1,24 @@
 -- Laws of the two widths: what is good with some columns is good with more; a written table names its own width; what an
 -- accepted call on tables of either width is at their one width.
-use Prim.Native.Nat.{ℕ, zero, suc, _+_, _*_, _≤_, _<_}
+use Prim.Native.Nat.{ℕ, zero, suc, _+_, _*_, _≤_}
 use mathlib.Core.Path.{_≡_, refl, sym, ap, ap₂, _∙_, subst}
-use mathlib.Core.Bool.{Bool, true, false, not, _&&_, _||_, cond}
-use mathlib.Core.List.{List, [], _∷_}
-use mathlib.Core.Logic.{_⊎_, inl, inr, _↔_}
-use Prim.{Unit, tt}
+use mathlib.Core.Bool.{Bool, true, false, not, _||_, cond}
+use mathlib.Core.List.{List}
+use mathlib.Core.Logic.{inl, inr}
+use Prim.{tt}
 use native.Mathlib.Omega.{arith}
 use lib.Dec.{ltb, eqb}
-use borrow.Author.Tests.{eqb-true, eqb-false, eq-eqb, ne-eqb, ltb-true, lt-ltb}
+use borrow.Author.Tests.{eqb-true, eqb-false, ne-eqb, ltb-true, lt-ltb}
 use lib.ListN.{length, getD}
 use Rattle.paper.specs.declared.Stamp.{Stamp}
 use Rattle.paper.specs.declared.Clock.{Clock}
 use Rattle.paper.specs.Columns.{Vec, zeros, greatest}
 use Rattle.paper.specs.Rules.{Kind, never, live, removed, Row}
-use Rattle.paper.specs.Tree.{Forest, end, sheet, folder, size, Tree}
+use Rattle.paper.specs.Tree.{end, sheet, folder, size, Tree}
 use Rattle.paper.specs.Words.{wide, Table, tableOf, sign, written}
-use Rattle.paper.specs.Refusals.{first, when, tens, unless}
+use Rattle.paper.specs.Refusals.{when, tens, unless}
 use Rattle.paper.specs.Check.{proper, laid, checkOf}
-use Rattle.paper.specs.Good.{GoodFloor, GoodSheet, Good, GoodTable}
+use Rattle.paper.specs.Good.{GoodFloor, Good, GoodTable}
 use Rattle.paper.specs.Calls.{Changed, Passed, newOf, passOf, settleOf}
 use Rattle.paper.specs.Widths.{Width, widthOf, tableAny, checkAny, eightOrSixteen, newAny, widenRefused, widenOf, twoWidths, passAny, settleAny}
 use Rattle.laws.proofs.Bools.{and-both, both-and}

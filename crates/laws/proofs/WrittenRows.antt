@@ -1,16 +1,16 @@
 -- Written rows: the row of a sheet and the row of a folder, their places, and trees read back from their rows.
 use Prim.{Unit, tt}
-use Prim.Native.Nat.{ℕ, zero, suc, _+_, _-_, _*_, _≤_, _<_}
+use Prim.Native.Nat.{ℕ, zero, suc, _+_, _-_, _*_, _≤_}
 use mathlib.Core.Path.{_≡_, refl, ap, ap₂, _∙_}
 use mathlib.Core.List.{List, _++_}
 use native.Mathlib.Omega.{arith}
 use lib.ListN.{length, take, drop, replicate, length-append}
 use lib.Seq.{take-at, drop-at, take-all}
 use Rattle.paper.specs.Columns.{Vec, Narrow, vec, part, columns}
-use Rattle.paper.specs.Rules.{Kind, never, live, removed, Row}
-use Rattle.paper.specs.Tree.{Forest, end, sheet, folder, mapped, size, levels, Sheet, Tree, newest, least, most}
-use Rattle.paper.specs.Order.{Raw, forestOf, wordsOf}
-use Rattle.paper.specs.Words.{wide, kindOf, kindNumber, rowOf, newestAt, leastAt, mostAt, floorOf, sheetOf, treeFrom, sheetWords, folderWords, folderRow, rowsOf, treeWords}
+use Rattle.paper.specs.Rules.{Kind, never, live, removed}
+use Rattle.paper.specs.Tree.{end, sheet, folder, mapped, size, levels, Sheet, Tree, newest, least, most}
+use Rattle.paper.specs.Order.{forestOf, wordsOf}
+use Rattle.paper.specs.Words.{wide, kindOf, kindNumber, rowOf, newestAt, leastAt, mostAt, floorOf, sheetOf, treeFrom, sheetWords, folderWords, rowsOf, treeWords}
 use Rattle.laws.proofs.Columns.{length-columns, vec-columns}
 use Rattle.laws.proofs.Forests.{folder-same}
 use Rattle.laws.proofs.FormedRows.{SheetRow, FolderRow, Formed, formed-read, formed-length}

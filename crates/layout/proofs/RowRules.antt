@@ -8,7 +8,7 @@ use mathlib.Core.Bool.{Bool, true, false, _&&_, and-false}
 use lib.Dec.{eqb, leb}
 use borrow.Author.Tests.{eq-eqb, ne-eqb, ltb-true, le-leb, lt-leb, leb-true, leb-false}
 use lib.ListN.{length, getD, take, drop, length-drop}
-use lib.Seq.{getD-take, getD-drop, take-all, take-take, drop-drop}
+use lib.Seq.{getD-take, getD-drop, take-all}
 use Rattle.paper.specs.declared.Clock.{Clock}
 use Rattle.paper.specs.declared.Stamp.{Stamp}
 use Rattle.paper.specs.Columns.{Vec, vec, full, covers, alike, part}

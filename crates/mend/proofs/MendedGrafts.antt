@@ -13,8 +13,7 @@ use Rattle.paper.specs.Words.{wide, sheetWords, folderRow, rowsOf}
 use Rattle.laws.proofs.Forests.{graft-size}
 use Rattle.laws.proofs.FormedRows.{Formed}
 use Rattle.laws.proofs.WrittenRows.{rows-size, rows-formed, sheet-formed, folder-formed}
-use Rattle.summary.specs.Sums.{mended}
-use Rattle.summary.specs.Sums.{Named}
+use Rattle.summary.specs.Sums.{mended, Named}
 use Rattle.mend.specs.Mended.{mendedRows}
 use Rattle.mend.proofs.MendedLoans.{mended-first}
 use Rattle.summary.proofs.Narrow.{Fine}

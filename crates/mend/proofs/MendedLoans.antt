@@ -14,9 +14,8 @@ use Rattle.paper.specs.Order.{kindWord, sizeWord, beneath, after, ordered, Raw,
 use Rattle.paper.specs.Words.{wide}
 use Rattle.laws.proofs.Order.{Step, ordered-facts, forest-step, split-part, row-room, row-length, beneath-length, after-length}
 use Rattle.laws.proofs.FormedRows.{Formed, formed-length, formed-ordered, formed-read, ordered-formed, ordered-words}
-use Rattle.summary.specs.Sums.{mended}
+use Rattle.summary.specs.Sums.{mended, Named, stored}
 use Rattle.order.proofs.Descents.{not-below, under-size, folder-here}
-use Rattle.summary.specs.Sums.{Named, stored}
 use Rattle.mend.specs.Mended.{mendedRows}
 use Rattle.mend.proofs.MendedRows.{mended-append, mended-size, mended-formed, mended-named}
 

@@ -15,9 +15,8 @@ use Rattle.paper.specs.Words.{wide, newestAt, leastAt, mostAt, floorOf}
 use Rattle.laws.proofs.Columns.{length-columns}
 use Rattle.laws.proofs.FormedRows.{FolderRow, Formed}
 use Rattle.vector.specs.Places.{put}
-use Rattle.summary.specs.Sums.{Sums, mended}
+use Rattle.summary.specs.Sums.{Sums, mended, Named, stored}
 use Rattle.vector.proofs.Places.{length-put, put-append, part-append}
-use Rattle.summary.specs.Sums.{Named, stored}
 use Rattle.mend.specs.Mended.{mendedRows}
 
 -- a word before the place where others are put

@@ -1,7 +1,7 @@
 -- A part in order as its first row with all beneath it, and the rows after: for rows of n words.
-use Prim.Native.Nat.{ℕ, zero, suc, _+_, _-_, _*_, _≤_, _<_}
+use Prim.Native.Nat.{ℕ, _+_, _-_, _*_, _≤_, _<_}
 use mathlib.Core.Path.{_≡_, refl, sym, ap, ap₂, _∙_}
-use mathlib.Core.List.{List, [], _∷_}
+use mathlib.Core.List.{List, []}
 use mathlib.Core.Bool.{Bool, true, false, _||_}
 use native.Mathlib.Omega.{arith}
 use lib.Dec.{eqb}

@@ -2,14 +2,13 @@
 -- clock afterwards, the row's first sixteen words (its floor is the last eight of them), and the table's check.
 use Prim.Native.Nat.{ℕ}
 use mathlib.Core.Path.{_≡_, refl}
-use mathlib.Core.List.{List, [], _∷_, _++_, map}
-use lib.ListN.{getD, take}
-use Rattle.paper.specs.declared.Clock.{Clock}
+use mathlib.Core.List.{List, [], _∷_}
+use lib.ListN.{take}
 use Rattle.paper.specs.Words.{tableOf}
 use Rattle.paper.specs.Check.{checkOf}
 use Rattle.paper.specs.Calls.{Changed, rowAt}
 use Rattle.paper.specs.Widths.{eventAny, settleAny}
-use Rattle.paper.proofs.Play.{Step, event, pass, settle, Desk, narrow, table, play, played}
+use Rattle.paper.proofs.Play.{Step, event, pass, narrow, table, play, played}
 
 record Outcome : Type 0 where
   number : ℕ

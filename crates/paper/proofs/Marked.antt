@@ -12,7 +12,7 @@ use Rattle.paper.specs.Words.{Table, floorAt}
 use Rattle.paper.specs.Widths.{tableAny, checkAny}
 use Rattle.paper.specs.Refusals.{first}
 use Rattle.paper.specs.Calls.{rowAt}
-use Rattle.paper.proofs.Play.{Step, event, pass, settle, Desk, fresh, table, passed, play, played}
+use Rattle.paper.proofs.Play.{Step, event, pass, settle, fresh, table, passed, play, played}
 
 -- a row's floor in the column of a device, the first, second or third of those that play
 record Floor : Type 0 where

@@ -1,5 +1,4 @@
 -- A pass at the words: what its walk takes for granted of the two tables, and the words afterwards.
-use Prim.{tt}
 use Prim.Native.Nat.{ℕ, zero, suc, _+_, _-_, _*_, _≤_, _<_}
 use mathlib.Core.Path.{_≡_, refl, sym, ap, ap₂, subst, _∙_}
 use mathlib.Core.Bool.{Bool, true, false, cond}
@@ -10,9 +9,9 @@ use borrow.Author.Tests.{ltb-true, ltb-false}
 use lib.ListN.{length, take, drop}
 use borrow.Rule.Slice.PartMut.{putMid}
 use Rattle.paper.specs.declared.Clock.{Clock}
-use Rattle.paper.specs.Columns.{Vec, greatest}
-use Rattle.paper.specs.Tree.{Forest, end, sheet, folder, mapped, subtree, size, Tree, above, fullLeast}
-use Rattle.paper.specs.Walk.{Pair, zip, left, right, raised, over, walk}
+use Rattle.paper.specs.Columns.{Vec}
+use Rattle.paper.specs.Tree.{Forest, end, sheet, folder, subtree, size, Tree, above}
+use Rattle.paper.specs.Walk.{Pair, zip, left, right, walk}
 use Rattle.paper.specs.Words.{wide, Table, tableOf, written, treeWords}
 use Rattle.paper.specs.Calls.{Passed, twoRefused, pairAt, passRefused, passDone, passOf}
 use Rattle.laws.proofs.Refusals.{first-both}

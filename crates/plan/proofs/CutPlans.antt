@@ -11,7 +11,7 @@ use lib.ListN.{length, getD, take, drop, replicate, length-append, length-drop, 
 use lib.Seq.{take-at, take-append-add, drop-append-add}
 use borrow.Rule.Slice.PartMut.{putMid}
 use Rattle.vector.proofs.Parts.{tail-length}
-use Rattle.paper.specs.Order.{kindWord, sizeWord, after, rowFits, ordered}
+use Rattle.paper.specs.Order.{kindWord, sizeWord, rowFits, ordered}
 use Rattle.paper.specs.Words.{wide}
 use Rattle.paper.specs.Columns.{zeros, columns}
 use Rattle.paper.specs.Check.{orderFits}

@@ -10,8 +10,7 @@ use lib.ListN.{length, getD}
 use Rattle.paper.specs.Words.{wide, headWords}
 use Rattle.paper.specs.Refusals.{first, when, unless}
 use Rattle.paper.specs.Check.{orderFits}
-use Rattle.paper.specs.Calls.{planned, newRefused, newOf}
-use Rattle.paper.specs.Calls.{Changed}
+use Rattle.paper.specs.Calls.{planned, newRefused, newOf, Changed}
 use Rattle.paper.specs.Widths.{widthOf, checkAny, eightOrSixteen, newAny, widenRefused, widenOf}
 use Rattle.laws.proofs.Bools.{and-both}
 use Rattle.laws.proofs.Refusals.{first-both, first-here, none-so, unless-none, unless-some}

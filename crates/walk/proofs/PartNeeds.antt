@@ -5,7 +5,7 @@ use mathlib.Core.List.{List}
 use native.Mathlib.Omega.{arith}
 use lib.ListN.{length, take, drop, set, length-set, length-drop}
 use Rattle.paper.specs.declared.Clock.{Clock}
-use Rattle.paper.specs.Columns.{Vec, Narrow, greatest}
+use Rattle.paper.specs.Columns.{Vec, greatest}
 use Rattle.paper.specs.Tree.{end, folder, size}
 use Rattle.paper.specs.Walk.{Two, Pair}
 use Rattle.paper.specs.Order.{kindWord}

@@ -14,10 +14,9 @@ use Rattle.paper.specs.Order.{kindWord, sizeWord, wordsOf}
 use Rattle.paper.specs.Words.{wide, kindNumber, sheetWords, folderWords, folderRow, rowsOf, treeWords}
 use Rattle.paper.specs.Good.{GoodFloor, GoodSheet, Good}
 use Rattle.laws.proofs.Forests.{mapped-size, mapped-plus}
-use Rattle.laws.proofs.WrittenRows.{folder-long}
+use Rattle.laws.proofs.WrittenRows.{folder-long, tree-length}
 use Rattle.walk.specs.Parts.{Single, one-sheet, one-folder, Fit}
 use Rattle.walk.proofs.SiblingsWalked.{tree-plus, good-plus}
-use Rattle.laws.proofs.WrittenRows.{tree-length}
 
 -- no sheet's kind is a folder's
 not-folder : (k : Kind) → kindNumber k ≡ 3 → ⊥

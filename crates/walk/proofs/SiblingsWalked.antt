@@ -1,22 +1,19 @@
 -- Some siblings and then others: words, good trees, and a walk over them.
 use Prim.{tt}
-use Prim.Native.Nat.{ℕ, suc, _+_, _*_, _≤_}
+use Prim.Native.Nat.{ℕ, suc, _+_, _≤_}
 use mathlib.Core.Path.{_≡_, refl, sym, ap, _∙_}
 use mathlib.Core.List.{List, _∷_, _++_, append-assoc}
 use mathlib.Core.Bool.{Bool, true, false, cond}
 use native.Mathlib.Omega.{arith}
-use lib.ListN.{length}
 use Rattle.paper.specs.declared.Clock.{Clock}
 use Rattle.paper.specs.Columns.{Vec, greatest}
 use Rattle.paper.specs.Rules.{numberOf}
-use Rattle.paper.specs.Tree.{end, sheet, folder, size, plus, levels, Tree, fullLeast}
+use Rattle.paper.specs.Tree.{end, sheet, folder, size, plus, Tree, fullLeast}
 use Rattle.paper.specs.Walk.{Pair, left, right, raised, silent, ruleAt, ruled, over, walk, answers, looked}
 use Rattle.paper.specs.Order.{wordsOf}
-use Rattle.paper.specs.Words.{wide, sheetWords, folderRow, rowsOf, treeWords}
+use Rattle.paper.specs.Words.{sheetWords, folderRow, rowsOf, treeWords}
 use Rattle.paper.specs.Good.{Good}
-use Rattle.laws.proofs.FormedRows.{formed-length}
 use Rattle.laws.proofs.Forests.{mapped-size}
-use Rattle.laws.proofs.WrittenRows.{rows-size, rows-formed}
 
 -- three parts
 pub plus-plus : (p q r : Pair) → plus (plus p q) r ≡ plus p (plus q r)

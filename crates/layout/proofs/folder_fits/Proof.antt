@@ -1,6 +1,5 @@
 -- At either width.
-use Prim.Native.Nat.{ℕ}
-use mathlib.Core.Path.{_≡_, sym, ap, _∙_}
+use mathlib.Core.Path.{sym, ap, _∙_}
 use native.Mathlib.Omega.{arith}
 use Rattle.summary.specs.Sums.{said}
 use Rattle.layout.specs.FolderSums.{folderBy}

@@ -13,28 +13,10 @@ returns c =
     let s = c .before .before .before .before .before .args in
     sym (covers-own (s .columns) (s .clock) (vec (s .u .0)) (s .r .now) (s .stamp) (c .before .before .if1 .taken))
 
-cast-column : tie.Need-cast-column
-cast-column c = search needs
-
-mul-if2 : tie.Need-mul-if2
-mul-if2 c = search needs
-
-array-read-if2 : tie.Need-array-read-if2
-array-read-if2 c = search needs
-
 returns-2 : tie.Need-returns-2
 returns-2 c =
     let s = c .before .before .before .before .before .before .before .args in
     sym (covers-above (s .columns) (s .clock) (vec (s .u .0)) (s .r .now) (s .stamp) (c .before .before .before .before .if1 .left) (omega arith))
-
-add-result : tie.Need-add-result
-add-result c = search needs
-
-mul-result : tie.Need-mul-result
-mul-result c = search needs
-
-shared-slice-read-result : tie.Need-shared-slice-read-result
-shared-slice-read-result c = search needs
 
 returns-3 : tie.Need-returns-3
 returns-3 c =
@@ -45,12 +27,5 @@ pub is-covered-spec : {M : Type 1} → statement M
 is-covered-spec =
     tie.close
     (tie.spec
-    returns
-    cast-column
-    mul-if2
-    array-read-if2
-    returns-2
-    add-result
-    mul-result
-    shared-slice-read-result
+    returns (λ c. search needs) (λ c. search needs) (λ c. search needs) returns-2 (λ c. search needs) (λ c. search needs) (λ c. search needs)
     returns-3)

@@ -7,21 +7,9 @@ use borrow.Author.Needs.{needs}
 use Rattle.layout.proofs.is_own_zero.Statement.{statement}
 use Rattle.layout.proofs.is_own_zero.Tie as tie
 
-cast-own : tie.Need-cast-own
-cast-own c = search needs
-
-add-result : tie.Need-add-result
-add-result c = search needs
-
-mul-result : tie.Need-mul-result
-mul-result c = search needs
-
-shared-slice-read-result : tie.Need-shared-slice-read-result
-shared-slice-read-result c = search needs
-
 returns : tie.Need-returns
 returns c = let s = c .before .before in sym (ap (λ n. eqb n 0) (floor-word (s .args .columns) (s .args .r .now) (s .args .clock .device) (s .pre .1)))
 
 pub is-own-zero-spec : {M : Type 1} → statement M
 is-own-zero-spec =
-    tie.close (tie.spec cast-own add-result mul-result shared-slice-read-result returns)
+    tie.close (tie.spec (λ c. search needs) (λ c. search needs) (λ c. search needs) (λ c. search needs) returns)

@@ -10,9 +10,6 @@ use borrow.Author.Needs.{needs}
 use Rattle.layout.proofs.is_proper.Statement.{statement}
 use Rattle.layout.proofs.is_proper.Tie as tie
 
-cast-if1 : tie.Need-cast-if1
-cast-if1 c = search needs
-
 returns : tie.Need-returns
 unfolding proper
 returns c = let s = c .before .before .args in sym (rw (not-so (ltb (s .s .device) (s .columns)) (λ e. omega (arith, ltb-true (s .s .device) (s .columns) e, c .if1))))
@@ -22,4 +19,4 @@ unfolding proper
 returns-2 c = let s = c .before .before .before .args in sym (rw (lt-ltb (s .s .device) (s .columns) (omega (arith, c .before .if1))))
 
 pub is-proper-spec : {M : Type 1} → statement M
-is-proper-spec = tie.close (tie.spec cast-if1 returns returns-2)
+is-proper-spec = tie.close (tie.spec (λ c. search needs) returns returns-2)

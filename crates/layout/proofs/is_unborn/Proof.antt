@@ -8,17 +8,8 @@ use borrow.Author.Needs.{needs}
 use Rattle.layout.proofs.is_unborn.Statement.{statement}
 use Rattle.layout.proofs.is_unborn.Tie as tie
 
-birth-of-requires : tie.Need-birth-of-requires
-birth-of-requires c κs = search needs
-
-is-absent-requires : tie.Need-is-absent-requires
-is-absent-requires c κs = search needs
-
 returns : tie.Need-returns
 returns c = sym (rw (ap absent (sym (c .before .before .birth-of .ensures)) ∙ sym (c .before .is-absent .ensures) ∙ not-true _ (c .if1 .taken)))
-
-shared-slice-read-result : tie.Need-shared-slice-read-result
-shared-slice-read-result c = search needs
 
 returns-2 : tie.Need-returns-2
 unfolding rowOf
@@ -27,4 +18,4 @@ returns-2 c = sym (rw (ap absent (sym (c .before .before .before .birth-of .ensu
 pub is-unborn-spec : {M : Type 1} → statement M
 is-unborn-spec =
     tie.close
-    (tie.spec birth-of-requires is-absent-requires returns shared-slice-read-result returns-2)
+    (tie.spec (λ c κs. search needs) (λ c κs. search needs) returns (λ c. search needs) returns-2)

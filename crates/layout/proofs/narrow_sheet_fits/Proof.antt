@@ -12,39 +12,18 @@ use Rattle.layout.proofs.narrow_sheet_fits.Tie as tie
 abbrev w : ℕ
 w = 8
 
-is-laid-requires : tie.Need-is-laid-requires
-is-laid-requires c κs = omega arith
-
 returns : tie.Need-returns
 returns c =
     let s = c .before .before .before .args in
     sym (not-laid w (s .clock) (vec (s .u .0)) (s .r .now) (sym (c .before .is-laid .ensures) ∙ not-true _ (c .if1 .taken)))
 
-shared-slice-read-if2 : tie.Need-shared-slice-read-if2
-shared-slice-read-if2 c = search needs
-
 returns-2 : tie.Need-returns-2
 returns-2 c = let s = c .before .before .before .before .before .args in sym (not-seven w (s .clock) (vec (s .u .0)) (s .r .now) (c .if2 .taken))
-
-is-own-zero-requires : tie.Need-is-own-zero-requires
-is-own-zero-requires c κs = search needs
 
 returns-3 : tie.Need-returns-3
 returns-3 c =
     let s = c .before .before .before .before .before .before .before .args in
     sym (not-own w (s .clock) (vec (s .u .0)) (s .r .now) (sym (c .before .is-own-zero .ensures) ∙ not-true _ (c .if3 .taken)))
-
-sub-is-blank : tie.Need-sub-is-blank
-sub-is-blank c = search needs
-
-part-is-blank-start : tie.Need-part-is-blank-start
-part-is-blank-start c = search needs
-
-part-is-blank-end : tie.Need-part-is-blank-end
-part-is-blank-end c = search needs
-
-is-blank-requires : tie.Need-is-blank-requires
-is-blank-requires c κs = search needs
 
 returns-4 : tie.Need-returns-4
 returns-4 c =
@@ -52,7 +31,9 @@ returns-4 c =
     sym (not-rest w (s .clock) (vec (s .u .0)) (s .r .now) (c .before .before .before .before .before .before .before .before .before .before .pre .0) (sym (c .before .is-blank .ensures) ∙ not-true _ (c .if4 .taken)))
 
 is-known-requires : tie.Need-is-known-requires
-is-known-requires c κs = (omega arith, sym (c .before .before .before .before .before .before .before .before .is-laid .ensures) ∙ not-false _ (c .before .before .before .before .before .before .before .if1 .left), omega arith, omega arith)
+is-known-requires c κs =
+    let else1 : tie.Else1 = search in let is-laid : tie.After-is-laid = search in
+    (omega arith, sym (is-laid .is-laid .ensures) ∙ not-false _ (else1 .if1 .left), omega arith, omega arith)
 
 returns-5 : tie.Need-returns-5
 returns-5 c =
@@ -63,16 +44,5 @@ pub narrow-sheet-fits-spec : {M : Type 1} → statement M
 narrow-sheet-fits-spec =
     tie.close
     (tie.spec
-    is-laid-requires
-    returns
-    shared-slice-read-if2
-    returns-2
-    is-own-zero-requires
-    returns-3
-    sub-is-blank
-    part-is-blank-start
-    part-is-blank-end
-    is-blank-requires
-    returns-4
-    is-known-requires
-    returns-5)
+    (λ c κs. omega arith) returns (λ c. search needs) returns-2 (λ c κs. search needs) returns-3 (λ c. search needs) (λ c. search needs)
+    (λ c. search needs) (λ c κs. search needs) returns-4 is-known-requires returns-5)

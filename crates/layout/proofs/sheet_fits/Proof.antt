@@ -1,6 +1,5 @@
 -- At either width.
-use Prim.Native.Nat.{ℕ}
-use mathlib.Core.Path.{_≡_, sym, ap, _∙_}
+use mathlib.Core.Path.{sym, ap, _∙_}
 use native.Mathlib.Omega.{arith}
 use Rattle.paper.specs.Columns.{vec}
 use Rattle.paper.specs.Check.{sheetFits}

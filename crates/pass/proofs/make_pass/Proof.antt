@@ -26,12 +26,14 @@ begin c = c .before .before .before .before .before .before .before .before .bef
 
 begun : (c : tie.After-above-row2)
     → Begun (tableOf (begin c .args .columns) (begin c .args .source .now)) (tableOf (begin c .args .columns) (begin c .args .target .now)) (begin c .args .row) (c .before .before .before .before .before .clock-of .result) (c .before .before .before .clock-of2 .result) (vec (c .before .before .above-row .result .0)) (vec (c .above-row2 .result .0))
-begun c = record {
-  source = c .before .before .before .before .before .clock-of .ensures _;
-  target = c .before .before .before .clock-of2 .ensures _;
-  aboveA = c .before .before .above-row .ensures;
-  aboveB = c .above-row2 .ensures;
-}
+begun c =
+    let clock-of : tie.After-clock-of = search in
+    record {
+      source = clock-of .clock-of .ensures _;
+      target = c .before .before .before .clock-of2 .ensures _;
+      aboveA = c .before .before .above-row .ensures;
+      aboveB = c .above-row2 .ensures;
+    }
 
 -- the rows walked
 abbrev read : tie.After-pass-row → tie.After-above-row2
@@ -46,123 +48,48 @@ done : (c : tie.After-pass-row)
     (passDone (begin (read c) .args .columns) (tableOf (begin (read c) .args .columns) (begin (read c) .args .source .now)) (tableOf (begin (read c) .args .columns) (begin (read c) .args .target .now)) (begin (read c) .args .row))
 done c = pass-changed (begin (read c) .args .columns) _ _ _ _ (begin (read c) .pre .0) (begun (read c)) (walked c)
 
-clock-of-requires : tie.Need-clock-of-requires
-clock-of-requires c κs = omega (arith, room (c .before .before .before))
-
-clock-of-requires-2 : tie.Need-clock-of-requires-2
-clock-of-requires-2 c κs = omega (arith, room (c .before .before .before .before .before))
-
 above-row-requires : tie.Need-above-row-requires
-above-row-requires c κs = let p = accepted (c .before .before .before .before .before .before .args .columns) _ _ _ _ (c .before .before .before .before .before .before .pre .0) in ((p .source, few (c .before .before .before .before .before .before)), p .inSource)
+above-row-requires c κs = let s : tie.Start = search in let p = accepted (s .args .columns) _ _ _ _ (s .pre .0) in ((p .source, few (s)), p .inSource)
 
 above-row-requires-2 : tie.Need-above-row-requires-2
-above-row-requires-2 c κs = let p = accepted (c .before .before .before .before .before .before .before .before .args .columns) _ _ _ _ (c .before .before .before .before .before .before .before .before .pre .0) in ((p .target, few (c .before .before .before .before .before .before .before .before)), p .inTarget)
-
-mul-width : tie.Need-mul-width
-mul-width c = let h = few (begin c) in omega arith
-
-add-width : tie.Need-add-width
-add-width c = let h = few (begin c) in omega arith
-
-add-from : tie.Need-add-from
-add-from c = omega (arith, room (begin c))
-
-mul-from : tie.Need-mul-from
-mul-from c = omega (arith, room (begin c))
-
-mul-end : tie.Need-mul-end
-mul-end c = omega (arith, room (begin c))
-
-add-end : tie.Need-add-end
-add-end c = omega (arith, room (begin c))
-
-mul-pass-row : tie.Need-mul-pass-row
-mul-pass-row c = omega (arith, room (begin c))
-
-sub-pass-row : tie.Need-sub-pass-row
-sub-pass-row c = search needs
-
-part-pass-row-start : tie.Need-part-pass-row-start
-part-pass-row-start c = search needs
-
-part-pass-row-end : tie.Need-part-pass-row-end
-part-pass-row-end c = room (begin c) .inSource
-
-mul-pass-row-2 : tie.Need-mul-pass-row-2
-mul-pass-row-2 c = omega (arith, room (begin (c .before)))
-
-sub-pass-row-2 : tie.Need-sub-pass-row-2
-sub-pass-row-2 c = search needs
-
-part-pass-row-start-2 : tie.Need-part-pass-row-start-2
-part-pass-row-start-2 c = search needs
-
-part-pass-row-end-2 : tie.Need-part-pass-row-end-2
-part-pass-row-end-2 c = room (begin (c .before)) .inTarget
+above-row-requires-2 c κs =
+    let s : tie.Start = search in
+    let p = accepted (s .args .columns) _ _ _ _ (s .pre .0) in ((p .target, few (s)), p .inTarget)
 
 pass-row-requires : tie.Need-pass-row-requires
 pass-row-requires c κs = (begin (c .before .before .before) .pre .1, pass-begins (begin (c .before .before .before) .args .columns) _ _ _ _ (begin (c .before .before .before) .pre .0) (begun (c .before .before .before)))
 
-mul-mend-above : tie.Need-mul-mend-above
-mul-mend-above c = let h = few (begin (read (c .before .before .before .before))) in omega arith
-
-sub-mend-above : tie.Need-sub-mend-above
-sub-mend-above c = done (c .before .before .before .before) .room
-
-part-mend-above-start : tie.Need-part-mend-above-start
-part-mend-above-start c = done (c .before .before .before .before) .room
-
-part-mend-above-end : tie.Need-part-mend-above-end
-part-mend-above-end c = search needs
-
 mend-above-requires : tie.Need-mend-above-requires
-mend-above-requires c κs = let y = siblings (done (c .before .before .before .before .before)) in (y .0, (y .1, begin (read (c .before .before .before .before .before)) .pre .1))
+mend-above-requires c κs =
+    let pass-row : tie.After-pass-row = search in
+    let y = siblings (done (pass-row)) in (y .0, (y .1, begin (read (pass-row)) .pre .1))
 
 cast-result : tie.Need-cast-result
 cast-result c =
-    let w = c .before .before .before .before .before .before .before .before in
+    let pass-row : tie.After-pass-row = search in
+    let w = pass-row in
     omega (arith, count-few (begin (read w) .args .columns) _ _ _ _ (begin (read w) .pre .0) (begun (read w)) (walked w))
 
 same-length : tie.Need-same-length
-same-length c = same-long (done (c .before .before .before .before .before .before .before .before)) (c .before .before .mend-above .last .0) (c .before .before .mend-above .kept .0)
-
-same-length-2 : tie.Need-same-length-2
-same-length-2 c = c .before .before .before .before .before .before .before .before .pass-row .kept .1 .1 .0
+same-length c =
+    let pass-row : tie.After-pass-row = search in
+    same-long (done (pass-row)) (c .before .before .mend-above .last .0) (c .before .before .mend-above .kept .0)
 
 returns : tie.Need-returns
 returns c =
-    let w = c .before .before .before .before .before .before .before .before in
+    let pass-row : tie.After-pass-row = search in
+    let w = pass-row in
     passed-all (begin (read w) .args .columns) _ _ _ _ (begin (read w) .pre .0) (begun (read w)) (walked w) _ (done w .all (c .before .before .mend-above .last .0) (c .before .before .mend-above .ensures))
 
 pub make-pass-spec : {M : Type 1} → statement M
 make-pass-spec =
     tie.close
     (tie.spec
-    clock-of-requires
-    clock-of-requires-2
-    above-row-requires
-    above-row-requires-2
-    mul-width
-    add-width
-    add-from
-    mul-from
-    mul-end
-    add-end
-    mul-pass-row
-    sub-pass-row
-    part-pass-row-start
-    part-pass-row-end
-    mul-pass-row-2
-    sub-pass-row-2
-    part-pass-row-start-2
-    part-pass-row-end-2
-    pass-row-requires
-    mul-mend-above
-    sub-mend-above
-    part-mend-above-start
-    part-mend-above-end
-    mend-above-requires
-    cast-result
-    same-length
-    same-length-2
-    returns)
+    (λ c κs. omega (arith, room (c .before .before .before))) (λ c κs. let s : tie.Start = search in omega (arith, room (s))) above-row-requires
+    above-row-requires-2 (λ c. let h = few (begin c) in omega arith) (λ c. let h = few (begin c) in omega arith) (λ c. omega (arith, room (begin c)))
+    (λ c. omega (arith, room (begin c))) (λ c. omega (arith, room (begin c))) (λ c. omega (arith, room (begin c)))
+    (λ c. omega (arith, room (begin c))) (λ c. search needs) (λ c. search needs) (λ c. room (begin c) .inSource)
+    (λ c. omega (arith, room (begin (c .before)))) (λ c. search needs) (λ c. search needs) (λ c. room (begin (c .before)) .inTarget)
+    pass-row-requires (λ c. let h = few (begin (read (c .before .before .before .before))) in omega arith)
+    (λ c. done (c .before .before .before .before) .room) (λ c. done (c .before .before .before .before) .room) (λ c. search needs)
+    mend-above-requires cast-result same-length (λ c. let pass-row : tie.After-pass-row = search in pass-row .pass-row .kept .1 .1 .0) returns)

@@ -9,21 +9,6 @@ use borrow.Author.Needs.{needs}
 use Rattle.kettleflock.proofs.passing.pass.Statement.{statement}
 use Rattle.kettleflock.proofs.passing.pass.Tie as tie
 
-pass-refused-requires : tie.Need-pass-refused-requires
-pass-refused-requires c κs = search needs
-
-same-length : tie.Need-same-length
-same-length c = search needs
-
-same-length-2 : tie.Need-same-length-2
-same-length-2 c = search needs
-
-returns : tie.Need-returns
-returns c = pass-any-not _ _ _ _ _ (c .before .pass-refused .ensures) (c .if1 .taken)
-
-columns-of-requires : tie.Need-columns-of-requires
-columns-of-requires c κs = search needs
-
 -- nothing refuses, at the width that was read
 abbrev from : tie.After-columns-of → tie.Start
 from c = c .before .before .before .before .before .before .before .before .before
@@ -37,15 +22,10 @@ make-pass-requires c κs =
     let s = from read .args in
     (ap (λ v. passRefused v (s .source .now) (s .target .now) (s .row) (s .answers .now)) (read .columns-of .ensures) ∙ none read .1, read-width _ (s .target .now) (read .columns-of .ensures))
 
-same-length-3 : tie.Need-same-length-3
-same-length-3 c = c .before .before .before .before .make-pass .kept .1 .0
-
-same-length-4 : tie.Need-same-length-4
-same-length-4 c = c .before .before .before .before .make-pass .kept .1 .1 .1 .0
-
 returns-2 : tie.Need-returns-2
 returns-2 c =
-    let read = c .before .before .before .before .before .before .before in
+    let columns-of : tie.After-columns-of = search in
+    let read = columns-of in
     let s = from read .args in
     c .before .before .before .before .make-pass .ensures
     ∙ ap (λ v. passOf v (s .source .now) (s .target .now) (s .row) (s .answers .now)) (read .columns-of .ensures)
@@ -55,12 +35,6 @@ pub pass-spec : {M : Type 1} → statement M
 pass-spec =
     tie.close
     (tie.spec
-    pass-refused-requires
-    same-length
-    same-length-2
-    returns
-    columns-of-requires
-    make-pass-requires
-    same-length-3
-    same-length-4
-    returns-2)
+    (λ c κs. search needs) (λ c. search needs) (λ c. search needs) (λ c. pass-any-not _ _ _ _ _ (c .before .pass-refused .ensures) (c .if1 .taken))
+    (λ c κs. search needs) make-pass-requires (λ c. c .before .before .before .before .make-pass .kept .1 .0)
+    (λ c. c .before .before .before .before .make-pass .kept .1 .1 .1 .0) returns-2)

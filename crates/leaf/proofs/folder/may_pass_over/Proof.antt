@@ -1,6 +1,5 @@
 -- At either width.
-use Prim.Native.Nat.{ℕ}
-use mathlib.Core.Path.{_≡_, sym, ap, subst, _∙_}
+use mathlib.Core.Path.{sym, ap, subst, _∙_}
 use Rattle.paper.specs.Columns.{vec}
 use Rattle.laws.proofs.Widths.{width-wide}
 use Rattle.leaf.specs.Leaves.{Rows, overRows}

@@ -11,9 +11,6 @@ use Rattle.leaf.proofs.folder.wide_raise_folder.Tie as tie
 abbrev w : ℕ
 w = 16
 
-mend-requires : tie.Need-mend-requires
-mend-requires c κs = (inr refl, search needs)
-
 returns : tie.Need-returns
 returns c =
     let m = c .before .before in
@@ -24,4 +21,4 @@ returns c =
     over-row w (q .a) (q .b) (vec (q .ua .0)) (vec (q .ua .0)) (q .s .now) (q .t .now) (l .full-at .ensures) (f .wide-raise-floor .ensures) (o .of-folder .ensures) (m .mend .ensures)
 
 pub wide-raise-folder-spec : {M : Type 1} → statement M
-wide-raise-folder-spec = tie.close (tie.spec (λ c κs. search needs) (λ c κs. search needs) (λ c κs. search needs) mend-requires (λ c. search needs) returns)
+wide-raise-folder-spec = tie.close (tie.spec (λ c κs. search needs) (λ c κs. search needs) (λ c κs. search needs) (λ c κs. (inr refl, search needs)) (λ c. search needs) returns)

@@ -5,14 +5,8 @@ use Rattle.paper.specs.Columns.{vec, full}
 use Rattle.leaf.proofs.full.full_at.Statement.{statement}
 use Rattle.leaf.proofs.full.full_at.Tie as tie
 
-read-requires : tie.Need-read-requires
-read-requires c κs = search needs
-
-full-requires : tie.Need-full-requires
-full-requires c κs = search needs
-
 returns : tie.Need-returns
 returns c = let q = c .before .before .before .args in c .full .ensures ∙ ap (full (q .clock) (vec (q .u .0))) (c .before .read .ensures)
 
 pub full-at-spec : {M : Type 1} → statement M
-full-at-spec = tie.close (tie.spec read-requires full-requires returns)
+full-at-spec = tie.close (tie.spec (λ c κs. search needs) (λ c κs. search needs) returns)

@@ -19,11 +19,15 @@ returns-3 c = rule-at (kind-live _ (c .before .before .if2 .taken)) (kind-live _
 
 returns-4 : tie.Need-returns-4
 unfolding rule news
-returns-4 c = rule-at (kind-live _ (c .before .before .before .before .if2 .taken)) (kind-removed _ (c .before .if5 .taken)) (c .before .before .before .before .before .if1 .left) (c .if6 .taken) (c .before .before .before .if3 .left) refl refl
+returns-4 c =
+    let else1 : tie.Else1 = search in
+    rule-at (kind-live _ (c .before .before .before .before .if2 .taken)) (kind-removed _ (c .before .if5 .taken)) (else1 .if1 .left) (c .if6 .taken) (c .before .before .before .if3 .left) refl refl
 
 returns-5 : tie.Need-returns-5
 unfolding rule news
-returns-5 c = rule-at (kind-live _ (c .before .before .before .before .if2 .taken)) (kind-removed _ (c .before .if5 .taken)) (c .before .before .before .before .before .if1 .left) (c .if6 .left) (c .before .before .before .if3 .left) refl refl
+returns-5 c =
+    let else1 : tie.Else1 = search in
+    rule-at (kind-live _ (c .before .before .before .before .if2 .taken)) (kind-removed _ (c .before .if5 .taken)) (else1 .if1 .left) (c .if6 .left) (c .before .before .before .if3 .left) refl refl
 
 returns-6 : tie.Need-returns-6
 unfolding rule news
@@ -31,11 +35,15 @@ returns-6 c = rule-at (kind-live _ (c .before .before .before .if2 .taken)) (kin
 
 returns-7 : tie.Need-returns-7
 unfolding rule news
-returns-7 c = rule-at (kind-removed _ (c .before .before .before .if7 .taken)) (kind-live _ (c .before .before .if8 .taken)) (c .before .before .before .before .before .if1 .left) refl (c .if10 .taken) (c .before .if9 .taken) refl
+returns-7 c =
+    let else1 : tie.Else1 = search in
+    rule-at (kind-removed _ (c .before .before .before .if7 .taken)) (kind-live _ (c .before .before .if8 .taken)) (else1 .if1 .left) refl (c .if10 .taken) (c .before .if9 .taken) refl
 
 returns-8 : tie.Need-returns-8
 unfolding rule news
-returns-8 c = rule-at (kind-removed _ (c .before .before .before .if7 .taken)) (kind-live _ (c .before .before .if8 .taken)) (c .before .before .before .before .before .if1 .left) refl (c .if10 .left) (c .before .if9 .taken) refl
+returns-8 c =
+    let else1 : tie.Else1 = search in
+    rule-at (kind-removed _ (c .before .before .before .if7 .taken)) (kind-live _ (c .before .before .if8 .taken)) (else1 .if1 .left) refl (c .if10 .left) (c .before .if9 .taken) refl
 
 returns-9 : tie.Need-returns-9
 unfolding rule news
@@ -57,15 +65,4 @@ pub decide-spec : {M : Type 1} → statement M
 decide-spec =
     tie.close
     (tie.spec
-    returns
-    returns-2
-    returns-3
-    returns-4
-    returns-5
-    returns-6
-    returns-7
-    returns-8
-    returns-9
-    returns-10
-    returns-11
-    returns-12)
+    returns returns-2 returns-3 returns-4 returns-5 returns-6 returns-7 returns-8 returns-9 returns-10 returns-11 returns-12)

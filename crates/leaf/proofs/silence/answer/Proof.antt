@@ -4,11 +4,5 @@ use Rattle.leaf.proofs.silence.answer.Statement.{statement}
 use borrow.Author.Tests.{ne-eqb}
 use Rattle.leaf.proofs.silence.answer.Tie as tie
 
-returns : tie.Need-returns
-returns c = rw (c .if1 .taken) refl
-
-returns-2 : tie.Need-returns-2
-returns-2 c = rw (ne-eqb _ 3 (c .if1 .left)) refl
-
 pub answer-spec : {M : Type 1} → statement M
-answer-spec = tie.close (tie.spec returns returns-2)
+answer-spec = tie.close (tie.spec (λ c. rw (c .if1 .taken) refl) (λ c. rw (ne-eqb _ 3 (c .if1 .left)) refl))

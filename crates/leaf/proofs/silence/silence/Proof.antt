@@ -15,9 +15,6 @@ Inv-loop s answers₀ width i₀ answers i = Upto (silentAt width s) answers₀ 
 abbrev μ-loop : tie.MeasureT-loop
 μ-loop s answers₀ width i₀ answers i = length answers₀ - i
 
-loop-holds : tie.Need-loop-holds Inv-loop μ-loop
-loop-holds c = upto-none _ _
-
 mul-answer : tie.Need-mul-answer Inv-loop μ-loop
 mul-answer c =
     let s = c .before .before .before .before in
@@ -36,45 +33,13 @@ shared-slice-read-answer c =
     let q = c .before .before .loop in
     omega (arith, row-below (q .i) (length (s .args .answers .now)) (s .args .width) (omega (arith, q .inv .long)) (s .pre .1), s .pre .0)
 
-answer-requires : tie.Need-answer-requires Inv-loop μ-loop
-answer-requires c κs = search needs
-
-mul-answers : tie.Need-mul-answers Inv-loop μ-loop
-mul-answers c = search needs
-
-slice-write-answers : tie.Need-slice-write-answers Inv-loop μ-loop
-slice-write-answers c = search needs
-
-add-i : tie.Need-add-i Inv-loop μ-loop
-add-i c = search needs
-
-loop-less : tie.Need-loop-less Inv-loop μ-loop
-loop-less c = search needs
-
 loop-again : tie.Need-loop-again Inv-loop μ-loop
 loop-again c = upto-set (c .answer .result) (c .before .before .before .loop .inv) (let q = c .before .before .before .loop .inv in omega (arith, q .long)) (c .answer .ensures)
-
-same-length : tie.Need-same-length Inv-loop μ-loop
-same-length c = c .before .loop .inv .long
-
-returns : tie.Need-returns Inv-loop μ-loop
-returns c = upto-columns (c .before .loop .inv) (let q = c .before .loop .inv in omega (arith, q .long))
 
 pub silence-spec : {M : Type 1} → statement M
 silence-spec =
     tie.close
     (tie.spec
-    Inv-loop
-    μ-loop
-    loop-holds
-    mul-answer
-    mul-answer-2
-    shared-slice-read-answer
-    answer-requires
-    mul-answers
-    slice-write-answers
-    add-i
-    loop-less
-    loop-again
-    same-length
-    returns)
+    Inv-loop μ-loop (λ c. upto-none _ _) mul-answer mul-answer-2 shared-slice-read-answer (λ c κs. search needs) (λ c. search needs)
+    (λ c. search needs) (λ c. search needs) (λ c. search needs) loop-again (λ c. c .before .loop .inv .long)
+    (λ c. upto-columns (c .before .loop .inv) (let q = c .before .loop .inv in omega (arith, q .long))))

@@ -14,25 +14,14 @@ use Rattle.leaf.proofs.single.narrow_raise_floor.Tie as tie
 abbrev w : ℕ
 w = 8
 
-read-requires : tie.Need-read-requires
-read-requires c κs = search needs
-
-raised-requires : tie.Need-raised-requires
-raised-requires c κs = search needs
-
-write-requires : tie.Need-write-requires
-write-requires c κs = search needs
-
-same-length : tie.Need-same-length
-same-length c = search needs
-
 returns : tie.Need-returns
 returns c =
-    let q = c .before .before .before .before .before .before .before .before .before .args in
+    let read : tie.After-read = search in let then1 : tie.Then1 = search in let s : tie.Start = search in
+    let q = s .args in
     let t = q .t .now in
     let f = raised (q .clock) (floorOf w t) (vec (q .v .0)) in
-    let e : vec (c .before .before .before .before .raised .result .0) ≡ f = c .before .before .before .before .raised .ensures ∙ ap (λ (x : Vec). raised (q .clock) x (vec (q .v .0))) (c .before .before .before .before .before .read .ensures) in
-    floor-yes w f (q .yes) (floorOf w t) t _ (c .before .before .before .before .before .before .before .if1 .taken) (c .before .before .write .ensures ∙ ap (λ (x : Vec). put floorAt (columns w x) t) e)
+    let e : vec (c .before .before .before .before .raised .result .0) ≡ f = c .before .before .before .before .raised .ensures ∙ ap (λ (x : Vec). raised (q .clock) x (vec (q .v .0))) (read .read .ensures) in
+    floor-yes w f (q .yes) (floorOf w t) t _ (then1 .if1 .taken) (c .before .before .write .ensures ∙ ap (λ (x : Vec). put floorAt (columns w x) t) e)
 
 returns-2 : tie.Need-returns-2
 returns-2 c =
@@ -41,4 +30,4 @@ returns-2 c =
 
 pub narrow-raise-floor-spec : {M : Type 1} → statement M
 narrow-raise-floor-spec =
-    tie.close (tie.spec read-requires raised-requires write-requires same-length returns returns-2)
+    tie.close (tie.spec (λ c κs. search needs) (λ c κs. search needs) (λ c κs. search needs) (λ c. search needs) returns returns-2)

@@ -9,50 +9,19 @@ use Rattle.leaf.proofs.single.wide_pass_sheet.Tie as tie
 abbrev w : ℕ
 w = 16
 
-full-at-requires : tie.Need-full-at-requires
-full-at-requires c κs = search needs
-
-full-at-requires-2 : tie.Need-full-at-requires-2
-full-at-requires-2 c κs = search needs
-
-wide-judge-requires : tie.Need-wide-judge-requires
-wide-judge-requires c κs = search needs
-
-is-joined-requires : tie.Need-is-joined-requires
-is-joined-requires c κs = search needs
-
-is-taken-requires : tie.Need-is-taken-requires
-is-taken-requires c κs = search needs
-
-wide-raise-floor-requires : tie.Need-wide-raise-floor-requires
-wide-raise-floor-requires c κs = search needs
-
-take-row-requires : tie.Need-take-row-requires
-take-row-requires c κs = search needs
-
-number-requires : tie.Need-number-requires
-number-requires c κs = search needs
-
-same-length : tie.Need-same-length
-same-length c = search needs
-
 returns : tie.Need-returns
-returns c = let q = c .before .before .before .before .before .before .before .before .before .before .before .before .before .before .before .before .before .before .args in
+returns c =
+    let wide-raise-floor : tie.After-wide-raise-floor = search in let is-taken : tie.After-is-taken = search in
+    let is-joined : tie.After-is-joined = search in let wide-judge : tie.After-wide-judge = search in let full-at2 : tie.After-full-at2 = search in
+    let full-at : tie.After-full-at = full-at2 .before .before in let s : tie.Start = full-at .before .before .before in
+    let q = s .args in
     sheet-passed w (q .a) (q .b) (vec (q .ua .0)) (vec (q .ub .0)) (q .s .now) (q .t .now)
-    (c .before .before .before .before .before .before .before .before .before .before .before .before .before .before .before .full-at .ensures) (c .before .before .before .before .before .before .before .before .before .before .before .before .before .full-at2 .ensures) (c .before .before .before .before .before .before .before .before .before .before .before .wide-judge .ensures) (c .number .ensures) (c .before .before .before .before .before .before .before .before .before .before .is-joined .ensures) (c .before .before .before .before .before .before .before .before .before .is-taken .ensures)
-    (c .before .before .before .before .before .before .before .wide-raise-floor .ensures) (c .before .before .before .take-row .ensures)
+    (full-at .full-at .ensures) (full-at2 .full-at2 .ensures) (wide-judge .wide-judge .ensures) (c .number .ensures) (is-joined .is-joined .ensures) (is-taken .is-taken .ensures)
+    (wide-raise-floor .wide-raise-floor .ensures) (c .before .before .before .take-row .ensures)
 
 pub wide-pass-sheet-spec : {M : Type 1} → statement M
 wide-pass-sheet-spec =
     tie.close
     (tie.spec
-    full-at-requires
-    full-at-requires-2
-    wide-judge-requires
-    is-joined-requires
-    is-taken-requires
-    wide-raise-floor-requires
-    take-row-requires
-    number-requires
-    same-length
-    returns)
+    (λ c κs. search needs) (λ c κs. search needs) (λ c κs. search needs) (λ c κs. search needs) (λ c κs. search needs) (λ c κs. search needs)
+    (λ c κs. search needs) (λ c κs. search needs) (λ c. search needs) returns)

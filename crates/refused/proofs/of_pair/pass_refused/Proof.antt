@@ -42,35 +42,8 @@ sized c =
     let s = from (c .before) .args in
     size-word (widthOf (s .target .now)) (s .target .now) (two (c .before) .target) (s .row) (two (c .before) .inTarget) ∙ ap (λ v. getD (s .target .now) ((s .row + 1) * wide v + 1) 0) (sym (c .columns-of .ensures))
 
-two-refused-requires : tie.Need-two-refused-requires
-two-refused-requires c κs = search needs
-
 returns : tie.Need-returns
 returns c = c .before .two-refused .ensures ∙ sym (pass-any-two _ _ _ _ _ (λ e. c .if1 .taken (c .before .two-refused .ensures ∙ e)))
-
-columns-of-requires : tie.Need-columns-of-requires
-columns-of-requires c κs = search needs
-
-mul-width : tie.Need-mul-width
-mul-width c = let h = few c in omega arith
-
-add-width : tie.Need-add-width
-add-width c = let h = few c in omega arith
-
-add-at : tie.Need-add-at
-add-at c = search needs
-
-mul-at : tie.Need-mul-at
-mul-at c = let r = at c in omega (arith, r .room, r .few)
-
-add-if2 : tie.Need-add-if2
-add-if2 c = let r = at c in omega (arith, r .room, r .few)
-
-mul-if2 : tie.Need-mul-if2
-mul-if2 c = let r = at c in omega (arith, r .room, r .few)
-
-shared-slice-read-if2 : tie.Need-shared-slice-read-if2
-shared-slice-read-if2 c = let r = at (c .before) in omega (arith, r .room)
 
 cast-if2 : tie.Need-cast-if2
 cast-if2 c = omega (arith, c .shared-slice-known4 .given ((from (c .before .before) .args .row + 1) * wide (c .before .columns-of .result) + 1))
@@ -91,16 +64,6 @@ pub pass-refused-spec : {M : Type 1} → statement M
 pass-refused-spec =
     tie.close
     (tie.spec
-    two-refused-requires
-    returns
-    columns-of-requires
-    mul-width
-    add-width
-    add-at
-    mul-at
-    add-if2
-    mul-if2
-    shared-slice-read-if2
-    cast-if2
-    returns-2
-    returns-3)
+    (λ c κs. search needs) returns (λ c κs. search needs) (λ c. let h = few c in omega arith) (λ c. let h = few c in omega arith) (λ c. search needs)
+    (λ c. let r = at c in omega (arith, r .room, r .few)) (λ c. let r = at c in omega (arith, r .room, r .few))
+    (λ c. let r = at c in omega (arith, r .room, r .few)) (λ c. let r = at (c .before) in omega (arith, r .room)) cast-if2 returns-2 returns-3)

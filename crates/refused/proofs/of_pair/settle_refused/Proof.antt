@@ -29,23 +29,14 @@ said : (c : tie.After-ruling-at)
     → saidOf (c .ruling-at .result) ≡ rulingHere (tableOf (widthOf (from (past c) .args .target .now)) (from (past c) .args .source .now)) (tableOf (widthOf (from (past c) .args .target .now)) (from (past c) .args .target .now)) (from (past c) .args .row)
 said c = c .ruling-at .ensures ∙ ap (λ v. rulingHere (tableOf v (from (past c) .args .source .now)) (tableOf v (from (past c) .args .target .now)) (from (past c) .args .row)) (c .before .columns-of .ensures)
 
-columns-of-requires : tie.Need-columns-of-requires
-columns-of-requires c κs = search needs
-
 ruling-at-requires : tie.Need-ruling-at-requires
 ruling-at-requires c κs =
     let one = c .before .before .before in
     let e = c .columns-of .ensures in
     (ap (λ v. twoRefused v (from one .args .source .now) (from one .args .target .now) (from one .args .row)) e ∙ none one .1, read-few (c .columns-of .result) (from one .args .target .now) e)
 
-two-refused-requires : tie.Need-two-refused-requires
-two-refused-requires c κs = search needs
-
 returns : tie.Need-returns
 returns c = c .before .two-refused .ensures ∙ sym (settle-any _ _ _ _ _ (λ e. c .if1 .taken (c .before .two-refused .ensures ∙ e)))
-
-is-one-to-three-requires : tie.Need-is-one-to-three-requires
-is-one-to-three-requires c κs = search needs
 
 returns-2 : tie.Need-returns-2
 unfolding first when
@@ -54,9 +45,6 @@ returns-2 c =
     settle-by _ _ _ _ (none one .1) _ refl _ false _ _ _ _
     (sym (not-true _ (c .if2 .taken)) ∙ c .before .is-one-to-three .ensures) refl refl refl refl
     ∙ sym (widths-past _ _ _ (none one .0))
-
-is-folder-requires : tie.Need-is-folder-requires
-is-folder-requires c κs = search needs
 
 returns-3 : tie.Need-returns-3
 unfolding first when
@@ -68,9 +56,6 @@ returns-3 c =
     (sym (not-false _ (two .if2 .left)) ∙ two .before .is-one-to-three .ensures)
     (sym (c .if3 .taken) ∙ c .before .is-folder .ensures) refl refl refl
     ∙ sym (widths-past _ _ _ (none one .0))
-
-is-conflict-requires : tie.Need-is-conflict-requires
-is-conflict-requires c κs = search needs
 
 returns-4 : tie.Need-returns-4
 unfolding first when
@@ -85,12 +70,10 @@ returns-4 c =
     (sym (not-true _ (c .if4 .taken)) ∙ c .before .is-conflict .ensures) refl refl
     ∙ sym (widths-past _ _ _ (none one .0))
 
-is-stamping-requires : tie.Need-is-stamping-requires
-is-stamping-requires c κs = search needs
-
 shared-slice-read-if6 : tie.Need-shared-slice-read-if6
 shared-slice-read-if6 c =
-    let one = c .before .before .before .before .before .before .before .before .before .before .before in
+    let else1 : tie.Else1 = search in
+    let one = else1 in
     omega (arith, two-room _ _ _ _ (none one .1))
 
 returns-5 : tie.Need-returns-5
@@ -146,18 +129,5 @@ pub settle-refused-spec : {M : Type 1} → statement M
 settle-refused-spec =
     tie.close
     (tie.spec
-    two-refused-requires
-    returns
-    is-one-to-three-requires
-    returns-2
-    columns-of-requires
-    ruling-at-requires
-    is-folder-requires
-    returns-3
-    is-conflict-requires
-    returns-4
-    is-stamping-requires
-    shared-slice-read-if6
-    returns-5
-    returns-6
-    returns-7)
+    (λ c κs. search needs) returns (λ c κs. search needs) returns-2 (λ c κs. search needs) ruling-at-requires (λ c κs. search needs) returns-3
+    (λ c κs. search needs) returns-4 (λ c κs. search needs) shared-slice-read-if6 returns-5 returns-6 returns-7)

@@ -12,28 +12,18 @@ use borrow.Author.Needs.{needs}
 use Rattle.refused.proofs.of_pair.two_refused.Statement.{statement}
 use Rattle.refused.proofs.of_pair.two_refused.Tie as tie
 
-check-requires : tie.Need-check-requires
-check-requires c κs = search needs
-
 returns : tie.Need-returns
 returns c = c .before .check .ensures ∙ sym (widths-source _ _ _ (λ e. c .if1 .taken (c .before .check .ensures ∙ e)))
 
-check-requires-2 : tie.Need-check-requires-2
-check-requires-2 c κs = search needs
-
 add-result : tie.Need-add-result
-add-result c = omega (arith, c .before .check2 .ensures, check-small (widthOf (c .before .before .before .before .before .before .args .target .now)) (c .before .before .before .before .before .before .args .target .now))
+add-result c =
+    let s : tie.Start = search in
+    omega (arith, c .before .check2 .ensures, check-small (widthOf (s .args .target .now)) (s .args .target .now))
 
 returns-2 : tie.Need-returns-2
 returns-2 c =
     let one = c .before .before in
     ap (λ n. n + 10) (c .before .check2 .ensures) ∙ sym (widths-target _ _ _ (sym (one .before .check .ensures) ∙ one .if1 .left) (λ e. c .if2 .taken (c .before .check2 .ensures ∙ e)))
-
-columns-of-requires : tie.Need-columns-of-requires
-columns-of-requires c κs = search needs
-
-columns-of-requires-2 : tie.Need-columns-of-requires-2
-columns-of-requires-2 c κs = search needs
 
 -- past both checks
 source-checked : (c : tie.Else2) → checkAny (c .before .before .before .before .before .before .args .source .now) ≡ 0
@@ -75,13 +65,5 @@ pub two-refused-spec : {M : Type 1} → statement M
 two-refused-spec =
     tie.close
     (tie.spec
-    check-requires
-    returns
-    check-requires-2
-    add-result
-    returns-2
-    columns-of-requires
-    columns-of-requires-2
-    returns-3
-    unlike-requires
-    returns-4)
+    (λ c κs. search needs) returns (λ c κs. search needs) add-result returns-2 (λ c κs. search needs) (λ c κs. search needs) returns-3
+    unlike-requires returns-4)

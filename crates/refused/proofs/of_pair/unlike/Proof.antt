@@ -9,9 +9,6 @@ use borrow.Author.Needs.{needs}
 use Rattle.refused.proofs.of_pair.unlike.Statement.{statement}
 use Rattle.refused.proofs.of_pair.unlike.Tie as tie
 
-same-shape-requires : tie.Need-same-shape-requires
-same-shape-requires c κs = search needs
-
 returns : tie.Need-returns
 unfolding first when
 returns c =
@@ -22,7 +19,9 @@ clock-of-requires : tie.Need-clock-of-requires
 clock-of-requires c κs = let start = c .before .before .before .before in omega (arith, table-long (start .args .columns) (start .args .source .now) (start .pre .0))
 
 clock-of-requires-2 : tie.Need-clock-of-requires-2
-clock-of-requires-2 c κs = let start = c .before .before .before .before .before in omega (arith, table-long (start .args .columns) (start .args .target .now) (start .pre .1))
+clock-of-requires-2 c κs =
+    let s : tie.Start = search in
+    let start = s in omega (arith, table-long (start .args .columns) (start .args .target .now) (start .pre .1))
 
 returns-2 : tie.Need-returns-2
 unfolding first when
@@ -52,7 +51,8 @@ returns-3 c =
 
 names-later-requires-2 : tie.Need-names-later-requires-2
 names-later-requires-2 c κs =
-    let read = c .before .before .before .before .before in
+    let clock-of2 : tie.After-clock-of2 = search in
+    let read = clock-of2 in
     let start = read .before .before .before .before .before .before in
     (start .pre .1, clock-device (start .args .columns) (start .args .source .now) (start .pre .0) (read .before .clock-of .result) (read .before .clock-of .ensures _), start .pre .2)
 
@@ -70,7 +70,9 @@ returns-4 c =
     (sym (c .if4 .taken) ∙ c .before .names-later2 .ensures) refl
 
 shared-slice-read-if5 : tie.Need-shared-slice-read-if5
-shared-slice-read-if5 c = let start = c .before .before .before .before .before .before .before .before .before .before .before .before .before .before in omega (arith, table-long (start .args .columns) (start .args .target .now) (start .pre .1))
+shared-slice-read-if5 c =
+    let s : tie.Start = search in
+    let start = s in omega (arith, table-long (start .args .columns) (start .args .target .now) (start .pre .1))
 
 returns-5 : tie.Need-returns-5
 unfolding first when
@@ -108,15 +110,5 @@ pub unlike-spec : {M : Type 1} → statement M
 unlike-spec =
     tie.close
     (tie.spec
-    same-shape-requires
-    returns
-    clock-of-requires
-    clock-of-requires-2
-    returns-2
-    names-later-requires
-    returns-3
-    names-later-requires-2
-    returns-4
-    shared-slice-read-if5
-    returns-5
-    returns-6)
+    (λ c κs. search needs) returns clock-of-requires clock-of-requires-2 returns-2 names-later-requires returns-3 names-later-requires-2 returns-4
+    shared-slice-read-if5 returns-5 returns-6)

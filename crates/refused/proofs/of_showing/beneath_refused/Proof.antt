@@ -47,39 +47,12 @@ kind c =
     let s = one (two (c .before)) .args in
     ap (λ v. eqb (getD (s .table .now) ((s .row + 1) * wide v) 0) 3) (c .columns-of .ensures) ∙ folder-word (widthOf (s .table .now)) (s .table .now) (checked (two (c .before))) (s .row) (there (c .before))
 
-check-requires : tie.Need-check-requires
-check-requires c κs = search needs
-
 returns : tie.Need-returns
 returns c = c .before .check .ensures ∙ sym (beneath-check _ _ _ (λ e. c .if1 .taken (c .before .check .ensures ∙ e)))
-
-shared-slice-read-if2 : tie.Need-shared-slice-read-if2
-shared-slice-read-if2 c = omega (arith, check-facts _ _ (checked (c .before)) .head .long)
 
 returns-2 : tie.Need-returns-2
 unfolding first when
 returns-2 c = let e = checked (c .before .before) in beneath-by _ _ _ e true _ (no-row _ _ e _ (c .if2 .taken)) refl
-
-columns-of-requires : tie.Need-columns-of-requires
-columns-of-requires c κs = search needs
-
-mul-width : tie.Need-mul-width
-mul-width c = let h = few c in omega arith
-
-add-width : tie.Need-add-width
-add-width c = let h = few c in omega arith
-
-add-at : tie.Need-add-at
-add-at c = search needs
-
-mul-at : tie.Need-mul-at
-mul-at c = let r = at c in omega (arith, r .room, r .few)
-
-mul-if3 : tie.Need-mul-if3
-mul-if3 c = let r = at c in omega (arith, r .room, r .few)
-
-shared-slice-read-if3 : tie.Need-shared-slice-read-if3
-shared-slice-read-if3 c = let r = at (c .before) in omega (arith, r .room)
 
 returns-3 : tie.Need-returns-3
 unfolding first when
@@ -99,16 +72,6 @@ pub beneath-refused-spec : {M : Type 1} → statement M
 beneath-refused-spec =
     tie.close
     (tie.spec
-    check-requires
-    returns
-    shared-slice-read-if2
-    returns-2
-    columns-of-requires
-    mul-width
-    add-width
-    add-at
-    mul-at
-    mul-if3
-    shared-slice-read-if3
-    returns-3
-    returns-4)
+    (λ c κs. search needs) returns (λ c. omega (arith, check-facts _ _ (checked (c .before)) .head .long)) returns-2 (λ c κs. search needs)
+    (λ c. let h = few c in omega arith) (λ c. let h = few c in omega arith) (λ c. search needs) (λ c. let r = at c in omega (arith, r .room, r .few))
+    (λ c. let r = at c in omega (arith, r .room, r .few)) (λ c. let r = at (c .before) in omega (arith, r .room)) returns-3 returns-4)

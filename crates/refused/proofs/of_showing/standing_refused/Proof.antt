@@ -27,23 +27,14 @@ said : (c : tie.After-ruling-at)
     → saidOf (c .ruling-at .result) ≡ rulingHere (tableOf (widthOf (from (past c) .args .target .now)) (from (past c) .args .source .now)) (tableOf (widthOf (from (past c) .args .target .now)) (from (past c) .args .target .now)) (from (past c) .args .row)
 said c = c .ruling-at .ensures ∙ ap (λ v. rulingHere (tableOf v (from (past c) .args .source .now)) (tableOf v (from (past c) .args .target .now)) (from (past c) .args .row)) (c .before .columns-of .ensures)
 
-columns-of-requires : tie.Need-columns-of-requires
-columns-of-requires c κs = search needs
-
 ruling-at-requires : tie.Need-ruling-at-requires
 ruling-at-requires c κs =
     let one = c .before in
     let e = c .columns-of .ensures in
     (ap (λ v. twoRefused v (from one .args .source .now) (from one .args .target .now) (from one .args .row)) e ∙ none one .1, read-few (c .columns-of .result) (from one .args .target .now) e)
 
-two-refused-requires : tie.Need-two-refused-requires
-two-refused-requires c κs = search needs
-
 returns : tie.Need-returns
 returns c = c .before .two-refused .ensures ∙ sym (standing-any _ _ _ _ (λ e. c .if1 .taken (c .before .two-refused .ensures ∙ e)))
-
-is-folder-requires : tie.Need-is-folder-requires
-is-folder-requires c κs = search needs
 
 returns-2 : tie.Need-returns-2
 unfolding first when
@@ -63,10 +54,4 @@ pub standing-refused-spec : {M : Type 1} → statement M
 standing-refused-spec =
     tie.close
     (tie.spec
-    two-refused-requires
-    returns
-    columns-of-requires
-    ruling-at-requires
-    is-folder-requires
-    returns-2
-    returns-3)
+    (λ c κs. search needs) returns (λ c κs. search needs) ruling-at-requires (λ c κs. search needs) returns-2 returns-3)

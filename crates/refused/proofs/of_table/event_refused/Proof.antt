@@ -94,25 +94,6 @@ returns-7 c =
     let k = c .before .before .before in
     sym (refused-by _ _ _ _ true false true false (checked (four (kind k))) (named (kind k .before .before)) (there (kind k)) (fitting k ∙ not-false _ (c .before .before .if5 .left)) (ne-eqb _ _ (c .if6 .left)))
 
--- reads of the head and of the row's kind
-shared-slice-read-if4 : tie.Need-shared-slice-read-if4
-shared-slice-read-if4 c = let h = check-facts _ _ (checked (three (c .before))) .head in omega (arith, h .long, h .few)
-
-shared-slice-read-fits-kind : tie.Need-shared-slice-read-fits-kind
-shared-slice-read-fits-kind c = let r = at (c .before) in omega (arith, r .room)
-
-mul-width : tie.Need-mul-width
-mul-width c = let h = few c in omega arith
-
-add-width : tie.Need-add-width
-add-width c = let h = few c in omega arith
-
-mul-at : tie.Need-mul-at
-mul-at c = let r = at c in omega (arith, r .room, r .few)
-
-mul-fits-kind : tie.Need-mul-fits-kind
-mul-fits-kind c = let r = at c in omega (arith, r .room, r .few)
-
 shared-slice-read-if6 : tie.Need-shared-slice-read-if6
 shared-slice-read-if6 c = let h = check-facts _ _ (checked (four (kind (c .before .before)))) .head in omega (arith, h .long, h .few)
 
@@ -120,21 +101,8 @@ pub event-refused-spec : {M : Type 1} → statement M
 event-refused-spec =
     tie.close
     (tie.spec
-    (λ c κs. search needs)
-    returns
-    returns-2
-    returns-3
-    shared-slice-read-if4
-    returns-4
-    (λ c κs. search needs)
-    mul-width
-    add-width
-    (λ c. search needs)
-    mul-at
-    mul-fits-kind
-    shared-slice-read-fits-kind
-    (λ c κs. search needs)
-    returns-5
-    shared-slice-read-if6
-    returns-6
-    returns-7)
+    (λ c κs. search needs) returns returns-2 returns-3
+    (λ c. let h = check-facts _ _ (checked (three (c .before))) .head in omega (arith, h .long, h .few)) returns-4 (λ c κs. search needs)
+    (λ c. let h = few c in omega arith) (λ c. let h = few c in omega arith) (λ c. search needs) (λ c. let r = at c in omega (arith, r .room, r .few))
+    (λ c. let r = at c in omega (arith, r .room, r .few)) (λ c. let r = at (c .before) in omega (arith, r .room)) (λ c κs. search needs) returns-5
+    shared-slice-read-if6 returns-6 returns-7)

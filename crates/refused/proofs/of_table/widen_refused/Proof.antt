@@ -1,5 +1,5 @@
 -- Each return is the first test that applies.
-use mathlib.Core.Path.{_≡_, refl, sym, ap, _∙_}
+use mathlib.Core.Path.{_≡_, refl, sym, _∙_}
 use mathlib.Core.Bool.{true, false}
 use native.Mathlib.Omega.{arith}
 use borrow.Author.Tests.{eq-eqb, ne-eqb}
@@ -21,29 +21,11 @@ checked c = sym (c .before .check .ensures) ∙ c .if1 .left
 narrow : (c : tie.Else2) → widthOf (one (c .before .before) .args .table .now) ≡ 16 → ⊥
 narrow c = λ e. c .if2 .left (c .before .columns-of .ensures ∙ e)
 
-check-requires : tie.Need-check-requires
-check-requires c κs = search needs
-
 returns : tie.Need-returns
 returns c = c .before .check .ensures ∙ sym (widen-check _ _ (λ e. c .if1 .taken (c .before .check .ensures ∙ e)))
 
-columns-of-requires : tie.Need-columns-of-requires
-columns-of-requires c κs = search needs
-
 returns-2 : tie.Need-returns-2
 returns-2 c = sym (widen-by _ _ (checked (c .before .before)) true _ (eq-eqb _ _ (sym (c .before .columns-of .ensures) ∙ c .if2 .taken)) refl)
-
-shared-slice-read-if3 : tie.Need-shared-slice-read-if3
-shared-slice-read-if3 c = let h = check-facts _ _ (checked (c .before .before .before)) .head in omega (arith, h .long)
-
-cast-if3 : tie.Need-cast-if3
-cast-if3 c = omega (arith, c .shared-slice-known3 .given 2)
-
-mul-if3 : tie.Need-mul-if3
-mul-if3 c = let h = check-facts _ _ (checked (c .before .before .before)) .head in omega (arith, h .few)
-
-add-if3 : tie.Need-add-if3
-add-if3 c = let h = check-facts _ _ (checked (c .before .before .before)) .head in omega (arith, h .few)
 
 returns-3 : tie.Need-returns-3
 returns-3 c = let two = c .before .before in sym (widen-by _ _ (checked (two .before .before)) false false (ne-eqb _ _ (narrow two)) (ne-eqb _ _ (c .if3 .taken)))
@@ -53,4 +35,4 @@ returns-4 c = let two = c .before .before in sym (widen-by _ _ (checked (two .be
 
 pub widen-refused-spec : {M : Type 1} → statement M
 widen-refused-spec =
-    tie.close (tie.spec check-requires returns columns-of-requires returns-2 shared-slice-read-if3 cast-if3 mul-if3 add-if3 returns-3 returns-4)
+    tie.close (tie.spec (λ c κs. search needs) returns (λ c κs. search needs) returns-2 (λ c. let h = check-facts _ _ (checked (c .before .before .before)) .head in omega (arith, h .long)) (λ c. omega (arith, c .shared-slice-known3 .given 2)) (λ c. let h = check-facts _ _ (checked (c .before .before .before)) .head in omega (arith, h .few)) (λ c. let h = check-facts _ _ (checked (c .before .before .before)) .head in omega (arith, h .few)) returns-3 returns-4)

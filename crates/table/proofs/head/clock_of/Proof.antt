@@ -5,15 +5,9 @@ use borrow.Author.Needs.{needs}
 use Rattle.table.proofs.head.clock_of.Statement.{statement}
 use Rattle.table.proofs.head.clock_of.Tie as tie
 
-shared-slice-read-t3 : tie.Need-shared-slice-read-t3
-shared-slice-read-t3 c = search needs
-
-shared-slice-read-t5 : tie.Need-shared-slice-read-t5
-shared-slice-read-t5 c = search needs
-
 returns : tie.Need-returns
 unfolding tableOf
 returns c = λ w. refl
 
 pub clock-of-spec : {M : Type 1} → statement M
-clock-of-spec = tie.close (tie.spec shared-slice-read-t3 shared-slice-read-t5 returns)
+clock-of-spec = tie.close (tie.spec (λ c. search needs) (λ c. search needs) returns)

@@ -21,23 +21,8 @@ abbrev μ-loop : tie.MeasureT-loop
 at : (c : tie.In-loop Inv-loop μ-loop) → Begins (c .before .before .before .before .args .columns) (c .before .before .before .before .args .table .now) (c .before .loop .row)
 at c = let start = c .before .before .before .before in begins (start .args .columns) (start .args .table .now) (c .before .loop .row) (start .pre .2) (start .pre .0) (omega arith)
 
-mul-width : tie.Need-mul-width Inv-loop μ-loop
-mul-width c = let h = c .pre .2 in omega arith
-
-add-width : tie.Need-add-width Inv-loop μ-loop
-add-width c = let h = c .pre .2 in omega arith
-
 shared-slice-read-rows : tie.Need-shared-slice-read-rows Inv-loop μ-loop
 shared-slice-read-rows c = let start = c .before in omega (arith, check-facts (start .args .columns) (start .args .table .now) (start .pre .0) .head .long)
-
-cast-rows : tie.Need-cast-rows Inv-loop μ-loop
-cast-rows c = omega (arith, c .shared-slice-known .given 2)
-
-cast-column : tie.Need-cast-column Inv-loop μ-loop
-cast-column c = search needs
-
-add-column : tie.Need-add-column Inv-loop μ-loop
-add-column c = search needs
 
 loop-holds : tie.Need-loop-holds Inv-loop μ-loop
 loop-holds c =
@@ -46,32 +31,14 @@ loop-holds c =
     let k = check-facts (start .args .columns) t (start .pre .0) in
     (search needs, k, later-all (start .args .columns) (start .args .clock) t k)
 
-add-at : tie.Need-add-at Inv-loop μ-loop
-add-at c = search needs
-
-mul-at : tie.Need-mul-at Inv-loop μ-loop
-mul-at c = let r = at c in omega (arith, r .room, r .few)
-
 add-if1 : tie.Need-add-if1 Inv-loop μ-loop
 add-if1 c = let r = at c in omega (arith, r .room, r .few, c .before .before .before .before .pre .1, c .before .before .before .before .pre .2)
-
-mul-if1 : tie.Need-mul-if1 Inv-loop μ-loop
-mul-if1 c = let r = at c in omega (arith, r .room, r .few)
-
-shared-slice-read-if1 : tie.Need-shared-slice-read-if1 Inv-loop μ-loop
-shared-slice-read-if1 c = let r = at (c .before) in omega (arith, r .room, c .before .before .before .before .before .pre .1)
 
 returns : tie.Need-returns Inv-loop μ-loop
 returns c =
     let here = c .before .before .before .before in
     let start = here .before .before .before in
     sym (here .loop .inv .2 ∙ later-here (start .args .columns) (start .args .clock) (start .args .table .now) (here .loop .row) (omega arith) (start .pre .1) (omega arith))
-
-add-row : tie.Need-add-row Inv-loop μ-loop
-add-row c = search needs
-
-loop-less : tie.Need-loop-less Inv-loop μ-loop
-loop-less c = search needs
 
 loop-again : tie.Need-loop-again Inv-loop μ-loop
 loop-again c =
@@ -89,22 +56,8 @@ pub names-later-spec : {M : Type 1} → statement M
 names-later-spec =
     tie.close
     (tie.spec
-    Inv-loop
-    μ-loop
-    mul-width
-    add-width
-    shared-slice-read-rows
-    cast-rows
-    cast-column
-    add-column
-    loop-holds
-    add-at
-    mul-at
-    add-if1
-    mul-if1
-    shared-slice-read-if1
-    returns
-    add-row
-    loop-less
-    loop-again
-    returns-2)
+    Inv-loop μ-loop (λ c. let h = c .pre .2 in omega arith) (λ c. let h = c .pre .2 in omega arith) shared-slice-read-rows
+    (λ c. omega (arith, c .shared-slice-known .given 2)) (λ c. search needs) (λ c. search needs) loop-holds (λ c. search needs)
+    (λ c. let r = at c in omega (arith, r .room, r .few)) add-if1 (λ c. let r = at c in omega (arith, r .room, r .few))
+    (λ c. let r = at (c .before) in omega (arith, r .room, c .before .before .before .before .before .pre .1)) returns (λ c. search needs)
+    (λ c. search needs) loop-again returns-2)

@@ -23,9 +23,6 @@ abbrev μ-loop : tie.MeasureT-loop
 shared-slice-read-rows : tie.Need-shared-slice-read-rows Inv-loop μ-loop
 shared-slice-read-rows c = let start = c .before .before .before in omega (arith, check-facts (start .args .columns) (start .args .source .now) (start .pre .0) .head .long)
 
-cast-rows : tie.Need-cast-rows Inv-loop μ-loop
-cast-rows c = omega (arith, c .shared-slice-known3 .given 2)
-
 returns : tie.Need-returns Inv-loop μ-loop
 returns c =
     let start = c .before .before .before .before in
@@ -58,12 +55,6 @@ returns-2 c =
     let t = start .args .target .now in
     sym (here .loop .inv .4 ∙ same-not (start .args .columns) s t (here .loop .row) (omega arith) (omega (arith, here .loop .inv .3)) (λ e. c .if2 .taken (c .before .before .plan-number .ensures ∙ e ∙ sym (c .before .plan-number2 .ensures))))
 
-add-row : tie.Need-add-row Inv-loop μ-loop
-add-row c = search needs
-
-loop-less : tie.Need-loop-less Inv-loop μ-loop
-loop-less c = search needs
-
 loop-again : tie.Need-loop-again Inv-loop μ-loop
 loop-again c =
     let here = c .before .before .before .before in
@@ -84,16 +75,5 @@ pub same-shape-spec : {M : Type 1} → statement M
 same-shape-spec =
     tie.close
     (tie.spec
-    Inv-loop
-    μ-loop
-    shared-slice-read-rows
-    cast-rows
-    returns
-    loop-holds
-    plan-number-requires
-    plan-number-requires-2
-    returns-2
-    add-row
-    loop-less
-    loop-again
-    returns-3)
+    Inv-loop μ-loop shared-slice-read-rows (λ c. omega (arith, c .shared-slice-known3 .given 2)) returns loop-holds plan-number-requires
+    plan-number-requires-2 returns-2 (λ c. search needs) (λ c. search needs) loop-again returns-3)

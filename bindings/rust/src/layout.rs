@@ -72,36 +72,43 @@ impl Columns {
     }
 
     /// How many there are.
+    #[must_use]
     pub const fn count(self) -> usize {
         self as usize
     }
 
     /// The words of a row, and of the head before the rows.
+    #[must_use]
     pub const fn width(self) -> usize {
         row::FLOOR + 4 * self.count()
     }
 
     /// The words of a table of so many rows.
+    #[must_use]
     pub const fn length(self, rows: usize) -> usize {
         self.width() * (rows + 1)
     }
 
     /// The word of a table at which a row starts.
+    #[must_use]
     pub const fn row(self, row: usize) -> usize {
         self.width() * (row + 1)
     }
 
     /// The place of the newest in a row.
+    #[must_use]
     pub const fn newest(self) -> usize {
         row::FLOOR + self.count()
     }
 
     /// The place of the least in a row.
+    #[must_use]
     pub const fn least(self) -> usize {
         row::FLOOR + 2 * self.count()
     }
 
     /// The place of the most in a row.
+    #[must_use]
     pub const fn most(self) -> usize {
         row::FLOOR + 3 * self.count()
     }

@@ -101,3 +101,8 @@ fn succeed(answer: raw::Answer) -> Result<u32, Refusal> {
 fn number(row: usize) -> u32 {
     u32::try_from(row).unwrap_or(u32::MAX)
 }
+
+/// The examples of the README are run.
+#[cfg(doctest)]
+#[doc = include_str!("../../../README.md")]
+struct Readme;

@@ -8,7 +8,7 @@
  *
  * What the tables can't see. In any run in which each device goes on from its own last table, a pass says of each sheet
  * what its full history says. That it is such a run is the caller's part:
- *   1. One number is one device, for ever. Two devices with one number lose each other's sheets, and no call says so.
+ *   1. One number is one device, for ever. Two devices with one number lose each other's sheets unseen.
  *   2. Save a table before anybody may read it. If it is lost after somebody has read it, what is left is an older copy.
  *   3. Never go on from an older copy of a table once its counter has moved. A restored device takes a fresh number,
  *      one that no device has had: make a new table with kf_new and pass the old one into it, before any other work.

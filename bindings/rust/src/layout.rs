@@ -29,7 +29,7 @@ pub mod head {
 
 /// The places of the words in a row, from its start.
 pub mod row {
-    /// The kind: 0 never, 1 live, 2 removed, 3 folder.
+    /// The kind: see [`kind`](super::kind).
     pub const KIND: usize = 0;
     /// How many rows the subtree has.
     pub const SIZE: usize = 1;
@@ -41,6 +41,18 @@ pub mod row {
     pub const MARK: usize = 6;
     /// The first of the four vectors, the floor. The others follow: see [`Columns`](super::Columns).
     pub const FLOOR: usize = 8;
+}
+
+/// The kinds of rows, as they stand at [`row::KIND`].
+pub mod kind {
+    /// A sheet to which nothing has happened.
+    pub const NEVER: u32 = 0;
+    /// A sheet that is there.
+    pub const LIVE: u32 = 1;
+    /// A sheet that was there.
+    pub const REMOVED: u32 = 2;
+    /// A folder.
+    pub const FOLDER: u32 = 3;
 }
 
 /// How many columns the vectors of a table have: one for each device. They give the table its width.

@@ -1,6 +1,6 @@
 //! Reading rows.
 
-use crate::layout::{row, Columns};
+use crate::layout::{kind, row, Columns};
 
 /// The name of an event: the device it happened on and that device's count of it.
 #[derive(Clone, Copy, Debug, PartialEq, Eq, Hash)]
@@ -62,13 +62,13 @@ impl<'a> Row<'a> {
     #[must_use]
     pub fn kind(&self) -> Kind {
         match self.words[row::KIND] {
-            0 => Kind::Never,
-            1 => Kind::Live {
+            kind::NEVER => Kind::Never,
+            kind::LIVE => Kind::Live {
                 stamp: self.stamp_at(row::STAMP),
                 birth: self.stamp_at(row::BIRTH),
                 mark: self.words[row::MARK],
             },
-            2 => Kind::Removed {
+            kind::REMOVED => Kind::Removed {
                 stamp: self.stamp_at(row::STAMP),
             },
             _ => Kind::Folder,

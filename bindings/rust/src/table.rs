@@ -171,7 +171,7 @@ impl Table {
     /// There is no such row ([`Refusal::NoSuchRow`]); it is there already or is a folder ([`Refusal::Unfit`]); the device has no next count
     /// ([`Refusal::CounterFull`]).
     pub fn create(&mut self, row: usize, mark: u32) -> Result<u32, Refusal> {
-        self.event(row, 1, mark)
+        self.event(row, Event::Create, mark)
     }
 
     /// Changes a sheet that is there. Gives the count of the event.
@@ -181,7 +181,7 @@ impl Table {
     /// There is no such row ([`Refusal::NoSuchRow`]); it isn't there or is a folder ([`Refusal::Unfit`]); the device has no next count
     /// ([`Refusal::CounterFull`]).
     pub fn change(&mut self, row: usize, mark: u32) -> Result<u32, Refusal> {
-        self.event(row, 2, mark)
+        self.event(row, Event::Change, mark)
     }
 
     /// Removes a sheet that is there. Gives the count of the event.
@@ -191,10 +191,19 @@ impl Table {
     /// There is no such row ([`Refusal::NoSuchRow`]); it isn't there or is a folder ([`Refusal::Unfit`]); the device has no next count
     /// ([`Refusal::CounterFull`]).
     pub fn remove(&mut self, row: usize) -> Result<u32, Refusal> {
-        self.event(row, 3, 0)
+        self.event(row, Event::Remove, 0)
     }
 
-    fn event(&mut self, row: usize, event: u32, mark: u32) -> Result<u32, Refusal> {
-        succeed(raw::event(&mut self.words, number(row), event, mark))
+    fn event(&mut self, row: usize, event: Event, mark: u32) -> Result<u32, Refusal> {
+        succeed(raw::event(&mut self.words, number(row), event as u32, mark))
     }
+}
+
+/// What is done to a sheet, by the library's number for it.
+#[derive(Clone, Copy)]
+#[repr(u32)]
+enum Event {
+    Create = 1,
+    Change = 2,
+    Remove = 3,
 }

@@ -19,6 +19,10 @@ int main(void) {
     static const uint32_t plan[ROWS] = {5, 3, 0, 0, 0};
     uint32_t desk[LENGTH], tablet[LENGTH], answers[ROWS];
 
+    if (kf_version() != KF_VERSION) {
+        fprintf(stderr, "the library has version %u, the header %u\n", (unsigned)kf_version(), (unsigned)KF_VERSION);
+        return 1;
+    }
     if (!is_right("kf_new", kf_new(COLUMNS, 0, plan, ROWS, desk, LENGTH), 0, ROWS) ||
         !is_right("kf_new", kf_new(COLUMNS, 1, plan, ROWS, tablet, LENGTH), 0, ROWS) ||
         !is_right("kf_event", kf_event(desk, LENGTH, SHEET, KF_CREATE, 700), 0, 1) ||

@@ -1,17 +1,30 @@
 /*
  * Kettleflock: duty sheets carried between devices.
+ * SPDX-License-Identifier: Apache-2.0
  *
  * A device holds one table of times for a tree of duty sheets. A pass takes a source table, only read, and a
  * target table, changed: it says for each sheet what the target must do and brings the target's times up to
  * date. The library keeps no state and allocates nothing; all memory is lent by the caller for one call.
  *
- * Lent memory. Every buffer is a pointer to 32-bit words followed by its length in words. The pointer isn't
- * NULL, even where the length is 0, and it points to that many words. A buffer that is written overlaps no other of
- * the call. Any words at all may be lent: what isn't a sound table is refused.
+ * What the tables can't see. In any run in which each device goes on from its own last table, a pass says of each sheet
+ * what its full history says. That it is such a run is the caller's part:
+ *   1. One number is one device, for ever. Two devices with one number lose each other's sheets unseen.
+ *   2. Save a table before anybody may read it. If it is lost after somebody has read it, what is left is an older copy.
+ *   3. Never go on from an older copy of a table once its counter has moved. A restored device takes a fresh number,
+ *      one that no device has had: make a new table with kf_new and pass the old one into it, before any other work.
+ *   4. Bring a sheet's content before you save the table that says it came. A pass doesn't say copy twice.
+ * examples/hazard.c shows what is lost otherwise.
  *
- * Answers. Every call gives a number and a count. Number 0 is success; any other is one of KF_REFUSED_..., with
- * the count 0, and then no word of any buffer has changed. Where several refusals apply, the first in the order
- * given at the call is the one given.
+ * Lent memory. Every buffer is a pointer to 32-bit words followed by its length in words. The pointer isn't
+ * NULL, even where the length is 0; it is aligned as a uint32_t and points to that many words. A buffer that is written
+ * overlaps no other of the call. Any words at all may be lent: what isn't a sound table is refused.
+ *
+ * Threads. Any thread may make any call at any time, as long as nobody writes a buffer that is lent, and nobody reads
+ * one that the call writes. Calls use neither errno nor locale nor signals. README.md says how much stack they take.
+ *
+ * Answers. Every call but the last two gives a number and a count. Number 0 is success; any other is one of
+ * KF_REFUSED_..., with the count 0, and then no word of any buffer has changed. Where several refusals apply, the first
+ * in the order given at the call is the one given.
  *
  * Layout. A vector has a column, one count, for each device: 8 in a narrow table, for devices 0 to 7, and 16 in a
  * wide one, for devices 0 to 15. A table is a head and then its 1 to 256 rows; the head and each row have 40 words if
@@ -19,6 +32,7 @@
  * wide), then zeros. A row: 0 kind, 1 size, 2-3 stamp (device, count), 4-5 birth (device, count), 6 mark, 7 zero, and
  * four vectors, floor, newest, least, most, which start at 8, 16, 24, 32 if narrow and at 8, 24, 40, 56 if wide. Rows
  * are depth first and numbered from 0, the root; a folder's size counts itself and all rows beneath it, a sheet's is 1.
+ * The tree of a table is fixed when it is made.
  *
  * Width. A call that takes two tables takes them of one width. kf_widen writes a narrow table as a wide one, from which
  * its device then goes on.
@@ -31,6 +45,20 @@
 
 #ifdef __cplusplus
 extern "C" {
+#endif
+
+/* The version of this header: major * 65536 + minor. kf_version gives that of the library that is linked. */
+#define KF_VERSION 2
+
+/* Before a call whose answer must be looked at: the compiler warns where it is dropped. */
+#if defined(__cplusplus) && __cplusplus >= 201703L
+#define KF_MUST_USE [[nodiscard]]
+#elif defined(__STDC_VERSION__) && __STDC_VERSION__ >= 202311L
+#define KF_MUST_USE [[nodiscard]]
+#elif defined(__GNUC__)
+#define KF_MUST_USE __attribute__((__warn_unused_result__))
+#else
+#define KF_MUST_USE
 #endif
 
 /* The columns of a vector, one for each device: devices are numbered from 0. */
@@ -117,6 +145,7 @@ enum kf_side { KF_NEITHER = 0, KF_SOURCE = 1, KF_TARGET = 2 };
  * Judges a table, only read. Counts its rows.
  * Refused with 1, 2, 3.
  */
+KF_MUST_USE
 kf_answer kf_check(const uint32_t *table, size_t table_length);
 
 /*
@@ -127,6 +156,7 @@ kf_answer kf_check(const uint32_t *table, size_t table_length);
  * doesn't matter.
  * Refused with 19, 17, 2 (also for a plan with no row or over 256), 9.
  */
+KF_MUST_USE
 kf_answer kf_new(uint32_t columns, uint32_t device, const uint32_t *plan, size_t plan_length, uint32_t *table,
                  size_t table_length);
 
@@ -137,6 +167,7 @@ kf_answer kf_new(uint32_t columns, uint32_t device, const uint32_t *plan, size_t
  * `wide` is written whole and must have KF_LENGTH(KF_COLUMNS_WIDE, rows) words; what was in it doesn't matter.
  * Refused with 1, 2, 3, 19 (the table is wide already), 9.
  */
+KF_MUST_USE
 kf_answer kf_widen(const uint32_t *table, size_t table_length, uint32_t *wide, size_t wide_length);
 
 /*
@@ -144,6 +175,7 @@ kf_answer kf_widen(const uint32_t *table, size_t table_length, uint32_t *wide, s
  * one; the new stamp is counted. `mark` stands for the sheet's content; KF_REMOVE ignores it.
  * Refused with 1, 2, 3, 16, 8, 10, 15.
  */
+KF_MUST_USE
 kf_answer kf_event(uint32_t *table, size_t table_length, uint32_t row, uint32_t event, uint32_t mark);
 
 /*
@@ -153,6 +185,7 @@ kf_answer kf_event(uint32_t *table, size_t table_length, uint32_t row, uint32_t 
  * `row` itself. Sheets and times of the target are brought up to date, but for conflicts.
  * Refused with 1, 2, 3, 11, 12, 13, 19, 4, 5, 6, 7, 8, 9.
  */
+KF_MUST_USE
 kf_answer kf_pass(const uint32_t *source, size_t source_length, uint32_t *target, size_t target_length, uint32_t row,
                   uint32_t *answers, size_t answers_length);
 
@@ -162,6 +195,7 @@ kf_answer kf_pass(const uint32_t *source, size_t source_length, uint32_t *target
  * doesn't come back. Counts the new stamp, 0 if there is none.
  * Refused with 1, 2, 3, 11, 12, 13, 19, 4, 5, 6, 7, 8, 16, 10, 14, 15.
  */
+KF_MUST_USE
 kf_answer kf_settle(const uint32_t *source, size_t source_length, uint32_t *target, size_t target_length, uint32_t row,
                     uint32_t choice, uint32_t mark);
 
@@ -170,6 +204,7 @@ kf_answer kf_settle(const uint32_t *source, size_t source_length, uint32_t *targ
  * table + KF_ROW(KF_COLUMNS(table), row + 1); an empty folder counts 0.
  * Refused with 1, 2, 3, 8.
  */
+KF_MUST_USE
 kf_answer kf_beneath(const uint32_t *table, size_t table_length, uint32_t row);
 
 /*
@@ -177,14 +212,22 @@ kf_answer kf_beneath(const uint32_t *table, size_t table_length, uint32_t row);
  * remove, else the target's. Counts its words: KF_WIDTH(KF_COLUMNS(target)), or 0 on a conflict. Changes nothing.
  * Refused with 1, 2, 3, 11, 12, 13, 19, 4, 5, 6, 7, 8, 10.
  */
+KF_MUST_USE
 kf_answer kf_standing(const uint32_t *source, size_t source_length, const uint32_t *target, size_t target_length,
                       uint32_t row);
 
 /*
  * In whose table that row lies, at its KF_ROW: KF_SOURCE or KF_TARGET, and KF_NEITHER on a conflict or a refusal.
  */
+KF_MUST_USE
 uint32_t kf_standing_side(const uint32_t *source, size_t source_length, const uint32_t *target, size_t target_length,
                           uint32_t row);
+
+/*
+ * The version of the library that is linked: KF_VERSION of the header that belongs to it.
+ */
+KF_MUST_USE
+uint32_t kf_version(void);
 
 #ifdef __cplusplus
 }

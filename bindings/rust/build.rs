@@ -1,5 +1,5 @@
-//! Links the library: `libkettleflock.a` in the folder that KETTLEFLOCK_LIB_DIR names, else where `rt staticlib
-//! kettleflock` writes it.
+//! Links the library: `libkettleflock.a` in the folder that KETTLEFLOCK_LIB_DIR names by an absolute path, else where `rt
+//! staticlib kettleflock` writes it.
 
 use std::env;
 use std::path::PathBuf;
@@ -7,7 +7,7 @@ use std::path::PathBuf;
 const FOLDER: &str = "KETTLEFLOCK_LIB_DIR";
 
 fn main() {
-    let folder = match env::var_os(FOLDER) {
+    let folder = match env::var_os(FOLDER).filter(|folder| !folder.is_empty()) {
         Some(folder) => PathBuf::from(folder),
         None => PathBuf::from(env!("CARGO_MANIFEST_DIR")).join("../../target/staticlib"),
     };

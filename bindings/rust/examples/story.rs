@@ -2,7 +2,7 @@
 //!
 //! The desk files a sheet and the tablet takes it along. The desk corrects the sheet. Then the old tablet is synchronized
 //! with the laptop and with the desk: the correction must survive. If the tablet was worked on too, somebody has to hear
-//! of it: conflict, never silence.
+//! of it: conflict.
 
 use kettleflock::{pass, settle, Answer, Choice, Columns, Kind, Passed, Plan, Refusal, Table};
 
@@ -82,7 +82,7 @@ fn main() -> Result<(), Refusal> {
         .iter()
         .all(|table| figure(table) == Some(645));
     if survives && said && settled {
-        println!("Nothing was lost, and nothing was silent.");
+        println!("No correction was lost, and the conflict was said.");
         Ok(())
     } else {
         std::process::exit(1)

@@ -29,7 +29,7 @@ pub mod head {
 
 /// The places of the words in a row, from its start.
 pub mod row {
-    /// The kind: 0 never, 1 live, 2 removed, 3 folder.
+    /// The kind: see [`kind`](super::kind).
     pub const KIND: usize = 0;
     /// How many rows the subtree has.
     pub const SIZE: usize = 1;
@@ -41,6 +41,18 @@ pub mod row {
     pub const MARK: usize = 6;
     /// The first of the four vectors, the floor. The others follow: see [`Columns`](super::Columns).
     pub const FLOOR: usize = 8;
+}
+
+/// The kinds of rows, as they stand at [`row::KIND`].
+pub mod kind {
+    /// A sheet to which nothing has happened.
+    pub const NEVER: u32 = 0;
+    /// A sheet that is there.
+    pub const LIVE: u32 = 1;
+    /// A sheet that was there.
+    pub const REMOVED: u32 = 2;
+    /// A folder.
+    pub const FOLDER: u32 = 3;
 }
 
 /// How many columns the vectors of a table have: one for each device. They give the table its width.
@@ -72,36 +84,43 @@ impl Columns {
     }
 
     /// How many there are.
+    #[must_use]
     pub const fn count(self) -> usize {
         self as usize
     }
 
     /// The words of a row, and of the head before the rows.
+    #[must_use]
     pub const fn width(self) -> usize {
         row::FLOOR + 4 * self.count()
     }
 
     /// The words of a table of so many rows.
+    #[must_use]
     pub const fn length(self, rows: usize) -> usize {
         self.width() * (rows + 1)
     }
 
     /// The word of a table at which a row starts.
+    #[must_use]
     pub const fn row(self, row: usize) -> usize {
         self.width() * (row + 1)
     }
 
     /// The place of the newest in a row.
+    #[must_use]
     pub const fn newest(self) -> usize {
         row::FLOOR + self.count()
     }
 
     /// The place of the least in a row.
+    #[must_use]
     pub const fn least(self) -> usize {
         row::FLOOR + 2 * self.count()
     }
 
     /// The place of the most in a row.
+    #[must_use]
     pub const fn most(self) -> usize {
         row::FLOOR + 3 * self.count()
     }

@@ -38,6 +38,7 @@ impl Answer {
 
 /// What a pass says of each row of its subtree.
 #[derive(Clone, Debug, PartialEq, Eq)]
+#[must_use = "conflicts are to be settled, and what was copied or removed is to be brought or taken away"]
 pub struct Passed {
     start: usize,
     answers: Vec<Answer>,
@@ -46,6 +47,7 @@ pub struct Passed {
 
 impl Passed {
     /// What it says of a row; `None` outside its subtree.
+    #[must_use]
     pub fn answer(&self, row: usize) -> Option<Answer> {
         self.answers.get(row.checked_sub(self.start)?).copied()
     }
@@ -63,6 +65,7 @@ impl Passed {
     }
 
     /// How many rows were looked at: those not beneath a folder that was passed over.
+    #[must_use]
     pub fn looked_at(&self) -> usize {
         self.looked_at
     }
@@ -84,6 +87,7 @@ pub enum Choice {
 
 /// The row that stands if a source is passed to a target.
 #[derive(Clone, Copy, Debug, PartialEq, Eq)]
+#[must_use]
 pub enum Standing<'a> {
     /// The source's: the rules say copy or remove.
     Source(Row<'a>),
@@ -115,6 +119,12 @@ pub enum Standing<'a> {
 /// assert_eq!(passed.looked_at(), 1);
 /// # Ok::<(), kettleflock::Refusal>(())
 /// ```
+///
+/// # Errors
+///
+/// The tables differ in columns ([`Refusal::Width`]) or in their trees ([`Refusal::PlacesDiffer`]), or are of one device
+/// ([`Refusal::OneDevice`]); one of them knows of a later time of the other than the other itself, which was put back to
+/// an older copy ([`Refusal::SourceAhead`], [`Refusal::TargetAhead`]); there is no such row ([`Refusal::NoSuchRow`]).
 pub fn pass(source: &Table, target: &mut Table, row: usize) -> Result<Passed, Refusal> {
     let size = target.row(row).map_or(0, |row| row.size());
     let mut answers = vec![0; size];
@@ -149,6 +159,11 @@ pub fn pass(source: &Table, target: &mut Table, row: usize) -> Result<Passed, Re
 /// assert_eq!(pass(&desk, &mut tablet, 0)?.conflicts().count(), 0);
 /// # Ok::<(), kettleflock::Refusal>(())
 /// ```
+///
+/// # Errors
+///
+/// Those of [`pass`]; the row is a folder ([`Refusal::Unfit`]); the rules don't say conflict there
+/// ([`Refusal::NoConflict`]); a new stamp is needed and the device has no next count ([`Refusal::CounterFull`]).
 pub fn settle(
     source: &Table,
     target: &mut Table,
@@ -185,6 +200,10 @@ pub fn settle(
 /// assert!(matches!(standing(&tablet, &desk, 1)?, Standing::Target(_)));
 /// # Ok::<(), kettleflock::Refusal>(())
 /// ```
+///
+/// # Errors
+///
+/// Those of [`pass`]; the row is a folder ([`Refusal::Unfit`]).
 pub fn standing<'a>(
     source: &'a Table,
     target: &'a Table,

@@ -19,6 +19,7 @@ pub enum Plan {
 
 impl Plan {
     /// A duty sheet.
+    #[must_use]
     pub fn sheet() -> Plan {
         Plan::Sheet
     }

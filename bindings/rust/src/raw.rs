@@ -16,6 +16,7 @@
 
 /// What every call gives: a refusal's number, or 0, and a count.
 #[derive(Clone, Copy, Debug, PartialEq, Eq, Hash)]
+#[must_use = "a call may have been refused"]
 #[repr(C)]
 pub struct Answer {
     /// 0, or why the call was refused.
@@ -23,6 +24,9 @@ pub struct Answer {
     /// What the call counts; 0 on a refusal.
     pub count: u32,
 }
+
+/// The version of the library that this crate belongs to, as [`version`] gives it.
+pub const VERSION: u32 = 2;
 
 mod exports {
     use super::Answer;
@@ -83,6 +87,7 @@ mod exports {
             target_length: usize,
             row: u32,
         ) -> u32;
+        pub fn kf_version() -> u32;
     }
 }
 
@@ -126,7 +131,7 @@ pub fn new(columns: u32, device: u32, plan: &[u32], table: &mut [u32]) -> Answer
 ///
 /// let mut table = vec![0; Columns::Eight.length(2)];
 /// let mut wide = vec![0; Columns::Sixteen.length(2)];
-/// raw::new(8, 0, &[2, 0], &mut table);
+/// assert_eq!(raw::new(8, 0, &[2, 0], &mut table).number, 0);
 /// assert_eq!(raw::widen(&table, &mut wide), raw::Answer { number: 0, count: 2 });
 /// assert_eq!(raw::check(&wide).number, 0);
 /// ```
@@ -194,7 +199,19 @@ pub fn standing(source: &[u32], target: &[u32], row: u32) -> Answer {
     }
 }
 
+/// The version of the library that is linked: major * 65536 + minor.
+///
+/// ```
+/// assert_eq!(kettleflock::raw::version(), kettleflock::raw::VERSION);
+/// ```
+#[must_use]
+pub fn version() -> u32 {
+    // SAFETY: it takes nothing.
+    unsafe { exports::kf_version() }
+}
+
 /// In whose table the row that stands lies: 1 the source's, 2 the target's, 0 on a conflict or a refusal.
+#[must_use]
 pub fn standing_side(source: &[u32], target: &[u32], row: u32) -> u32 {
     // SAFETY: see above.
     unsafe {

@@ -91,6 +91,7 @@ impl Refusal {
     /// assert_eq!(Refusal::from_number(19), Some(Refusal::Width));
     /// assert_eq!(Refusal::from_number(1000), Some(Refusal::Unknown(1000)));
     /// ```
+    #[must_use]
     pub fn from_number(number: u32) -> Option<Refusal> {
         let mut named = Refusal::ALL.iter().copied();
         match number {
@@ -102,6 +103,7 @@ impl Refusal {
     }
 
     /// The number of this refusal.
+    #[must_use]
     pub fn number(self) -> u32 {
         self.entry().0
     }

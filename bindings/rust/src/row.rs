@@ -1,6 +1,6 @@
 //! Reading rows.
 
-use crate::layout::{row, Columns};
+use crate::layout::{kind, row, Columns};
 
 /// The name of an event: the device it happened on and that device's count of it.
 #[derive(Clone, Copy, Debug, PartialEq, Eq, Hash)]
@@ -53,20 +53,22 @@ pub struct Row<'a> {
 
 impl<'a> Row<'a> {
     /// The row's number, from 0, the root.
+    #[must_use]
     pub fn number(&self) -> usize {
         self.number
     }
 
     /// What the row is.
+    #[must_use]
     pub fn kind(&self) -> Kind {
         match self.words[row::KIND] {
-            0 => Kind::Never,
-            1 => Kind::Live {
+            kind::NEVER => Kind::Never,
+            kind::LIVE => Kind::Live {
                 stamp: self.stamp_at(row::STAMP),
                 birth: self.stamp_at(row::BIRTH),
                 mark: self.words[row::MARK],
             },
-            2 => Kind::Removed {
+            kind::REMOVED => Kind::Removed {
                 stamp: self.stamp_at(row::STAMP),
             },
             _ => Kind::Folder,
@@ -74,6 +76,7 @@ impl<'a> Row<'a> {
     }
 
     /// How many rows its subtree has: itself, and all beneath.
+    #[must_use]
     pub fn size(&self) -> usize {
         self.words[row::SIZE] as usize
     }
@@ -87,16 +90,18 @@ impl<'a> Row<'a> {
     /// let mut desk = Table::new(Columns::Eight, 0, &plan)?;
     /// let mut tablet = Table::new(Columns::Eight, 1, &plan)?;
     /// desk.create(1, 700)?;
-    /// pass(&desk, &mut tablet, 0)?;
+    /// assert_eq!(pass(&desk, &mut tablet, 0)?.looked_at(), 2);
     /// let sheet = tablet.row(1).expect("a row");
     /// assert_eq!(sheet.floor(), [1, 0, 0, 0, 0, 0, 0, 0]);
     /// # Ok::<(), kettleflock::Refusal>(())
     /// ```
+    #[must_use]
     pub fn floor(&self) -> &'a [u32] {
         &self.words[row::FLOOR..self.columns.newest()]
     }
 
     /// The row's words, 40 or 72.
+    #[must_use]
     pub fn words(&self) -> &'a [u32] {
         self.words
     }

@@ -33,6 +33,11 @@ impl Table {
     /// assert_eq!(Table::new(Columns::Eight, 15, &plan), Err(Refusal::NoSuchDevice));
     /// # Ok::<(), Refusal>(())
     /// ```
+    ///
+    /// # Errors
+    ///
+    /// The device is none of so many columns ([`Refusal::NoSuchDevice`]); the plan is a sheet alone, or has more than 256 rows or
+    /// 16 levels ([`Refusal::Order`]).
     pub fn new(columns: Columns, device: u32, plan: &Plan) -> Result<Table, Refusal> {
         let plan = plan.numbers();
         let mut words = vec![0; columns.length(plan.len())];
@@ -51,6 +56,10 @@ impl Table {
     /// assert_eq!(Table::from_words(vec![]), Err(Refusal::Head));
     /// # Ok::<(), Refusal>(())
     /// ```
+    ///
+    /// # Errors
+    ///
+    /// The words are no sound table: [`Refusal::Head`], [`Refusal::Order`], [`Refusal::Rule`].
     pub fn from_words(words: Vec<u32>) -> Result<Table, Refusal> {
         succeed(raw::check(&words))?;
         Ok(Table { words })
@@ -74,6 +83,10 @@ impl Table {
     /// assert_eq!(desk.widen(), Err(Refusal::Width));
     /// # Ok::<(), Refusal>(())
     /// ```
+    ///
+    /// # Errors
+    ///
+    /// The table has sixteen columns already ([`Refusal::Width`]).
     pub fn widen(&self) -> Result<Table, Refusal> {
         let mut words = vec![0; Columns::Sixteen.length(self.rows().len())];
         succeed(raw::widen(&self.words, &mut words))?;
@@ -81,11 +94,13 @@ impl Table {
     }
 
     /// The table's words, to be kept or sent.
+    #[must_use]
     pub fn words(&self) -> &[u32] {
         &self.words
     }
 
     /// The table's words, to be kept or sent.
+    #[must_use]
     pub fn into_words(self) -> Vec<u32> {
         self.words
     }
@@ -96,26 +111,31 @@ impl Table {
     }
 
     /// How many columns its vectors have.
+    #[must_use]
     pub fn columns(&self) -> Columns {
         Columns::of(&self.words)
     }
 
     /// The device, below the number of columns.
+    #[must_use]
     pub fn device(&self) -> u32 {
         self.words[head::DEVICE]
     }
 
     /// How many events have happened on the device.
+    #[must_use]
     pub fn counter(&self) -> u32 {
         self.words[head::COUNTER]
     }
 
     /// A row, from 0, the root.
+    #[must_use]
     pub fn row(&self, row: usize) -> Option<Row<'_>> {
         self.rows().nth(row)
     }
 
     /// All rows, depth first.
+    #[must_use]
     pub fn rows(&self) -> Rows<'_> {
         let columns = self.columns();
         Rows::new(columns, 0, &self.words[columns.row(0)..])
@@ -133,6 +153,10 @@ impl Table {
     /// assert_eq!(table.beneath(2).unwrap_err(), Refusal::NoSuchRow);
     /// # Ok::<(), Refusal>(())
     /// ```
+    ///
+    /// # Errors
+    ///
+    /// There is no such row, or it is a sheet ([`Refusal::NoSuchRow`]).
     pub fn beneath(&self, folder: usize) -> Result<Rows<'_>, Refusal> {
         let length = succeed(raw::beneath(&self.words, number(folder)))? as usize;
         let (columns, first) = (self.columns(), folder + 1);
@@ -141,21 +165,45 @@ impl Table {
     }
 
     /// Creates a sheet that isn't there. Gives the count of the event.
+    ///
+    /// # Errors
+    ///
+    /// There is no such row ([`Refusal::NoSuchRow`]); it is there already or is a folder ([`Refusal::Unfit`]); the device has no next count
+    /// ([`Refusal::CounterFull`]).
     pub fn create(&mut self, row: usize, mark: u32) -> Result<u32, Refusal> {
-        self.event(row, 1, mark)
+        self.event(row, Event::Create, mark)
     }
 
     /// Changes a sheet that is there. Gives the count of the event.
+    ///
+    /// # Errors
+    ///
+    /// There is no such row ([`Refusal::NoSuchRow`]); it isn't there or is a folder ([`Refusal::Unfit`]); the device has no next count
+    /// ([`Refusal::CounterFull`]).
     pub fn change(&mut self, row: usize, mark: u32) -> Result<u32, Refusal> {
-        self.event(row, 2, mark)
+        self.event(row, Event::Change, mark)
     }
 
     /// Removes a sheet that is there. Gives the count of the event.
+    ///
+    /// # Errors
+    ///
+    /// There is no such row ([`Refusal::NoSuchRow`]); it isn't there or is a folder ([`Refusal::Unfit`]); the device has no next count
+    /// ([`Refusal::CounterFull`]).
     pub fn remove(&mut self, row: usize) -> Result<u32, Refusal> {
-        self.event(row, 3, 0)
+        self.event(row, Event::Remove, 0)
     }
 
-    fn event(&mut self, row: usize, event: u32, mark: u32) -> Result<u32, Refusal> {
-        succeed(raw::event(&mut self.words, number(row), event, mark))
+    fn event(&mut self, row: usize, event: Event, mark: u32) -> Result<u32, Refusal> {
+        succeed(raw::event(&mut self.words, number(row), event as u32, mark))
     }
+}
+
+/// What is done to a sheet, by the library's number for it.
+#[derive(Clone, Copy)]
+#[repr(u32)]
+enum Event {
+    Create = 1,
+    Change = 2,
+    Remove = 3,
 }

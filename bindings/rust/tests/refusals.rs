@@ -248,7 +248,7 @@ fn device_put_back_to_an_old_table() {
     let (mut desk, mut tablet) = (narrow(0), narrow(1));
     let old = desk.clone();
     desk.create(2, 1).expect("a row never used");
-    pass(&desk, &mut tablet, 0).expect("a sound pair");
+    assert!(pass(&desk, &mut tablet, 0).is_ok());
     assert_eq!(pass(&old, &mut tablet, 0), Err(Refusal::TargetAhead));
     assert_eq!(
         pass(&tablet, &mut old.clone(), 0),

@@ -17,7 +17,7 @@ fn widened(table: &Table) -> Table {
 fn in_conflict(columns: Columns) -> (Table, Table) {
     let (mut desk, mut tablet) = (table(columns, 0), table(columns, 1));
     desk.create(2, 700).expect("a row never used");
-    passed(&desk, &mut tablet);
+    assert_eq!(passed(&desk, &mut tablet).answer(2), Some(Answer::Copy));
     desk.change(2, 701).expect("a live row");
     tablet.change(2, 702).expect("a live row");
     (desk, tablet)
@@ -102,7 +102,7 @@ fn sixteen_devices() {
     desk.create(2, 700).expect("a row never used");
     for device in 1..16 {
         let mut tablet = table(Columns::Sixteen, device);
-        passed(&desk, &mut tablet);
+        assert_eq!(passed(&desk, &mut tablet).answer(2), Some(Answer::Copy));
         assert_eq!(tablet.change(2, 700 + device), Ok(1));
         assert_eq!(passed(&tablet, &mut desk).answer(2), Some(Answer::Copy));
     }

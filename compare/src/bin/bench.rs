@@ -233,7 +233,7 @@ fn print_all(width: Width, measured: &[(&str, &dyn Measured)], rounds: usize) {
     for (name, source, target) in pairs(width) {
         let check = |measured: &dyn Measured| {
             let start = Instant::now();
-            black_box(measured.check(black_box(&source)));
+            let _ = black_box(measured.check(black_box(&source)));
             start.elapsed()
         };
         print(format!("check, {name}"), middles(measured, rounds, check));
@@ -243,7 +243,7 @@ fn print_all(width: Width, measured: &[(&str, &dyn Measured)], rounds: usize) {
             changed.copy_from_slice(&target);
             let (target, answers) = (black_box(&mut changed), black_box(&mut answers));
             let start = Instant::now();
-            black_box(measured.pass(black_box(&source), target, answers));
+            let _ = black_box(measured.pass(black_box(&source), target, answers));
             start.elapsed()
         };
         print(format!("pass, {name}"), middles(measured, rounds, pass));

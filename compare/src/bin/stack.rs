@@ -1,10 +1,12 @@
 //! Measures the stack that each export takes on tables of 256 rows, at both widths and in three shapes of tree: the
-//! bytes beneath its caller that it has touched. Each call succeeds, but that a wide table isn't widened.
+//! bytes beneath its caller that it has touched. Each call succeeds, but that a wide table isn't widened. With `--most N`
+//! a call that takes more than N bytes fails.
 
 #![allow(unsafe_code)]
 
 use std::hint::black_box;
-use std::{ptr, thread};
+use std::process::ExitCode;
+use std::{env, ptr, thread};
 
 use compare::program::{Answer, PRODUCT};
 use second::layout::{Width, MOST_LEVELS, MOST_ROWS};
@@ -20,13 +22,44 @@ const PAINT: u8 = 0xa5;
 /// The bytes next to the measuring function that stay as they are: its own may lie there.
 const MARGIN: usize = 256;
 
-fn main() {
+fn main() -> ExitCode {
+    let words: Vec<String> = env::args().skip(1).collect();
+    let words: Vec<&str> = words.iter().map(String::as_str).collect();
+    let most = match words[..] {
+        [] => None,
+        ["--most", bytes] => match bytes.parse::<usize>() {
+            Ok(bytes) => Some(bytes),
+            Err(_) => return usage(),
+        },
+        _ => return usage(),
+    };
     let measuring = thread::Builder::new().stack_size(4 * FIELD);
     let measured = measuring.spawn(print_all).expect("a thread");
-    measured.join().expect("all is measured");
+    let calls = measured.join().expect("all is measured");
+    match most {
+        None => ExitCode::SUCCESS,
+        Some(most) => judge(&calls, most),
+    }
 }
 
-fn print_all() {
+fn usage() -> ExitCode {
+    eprintln!("stack [--most N]: measures the stack that each export takes; with --most none may take more than N bytes");
+    ExitCode::from(2)
+}
+
+/// Says which calls take too much. The last line is `N passed, M failed`.
+fn judge(calls: &[(&str, usize)], most: usize) -> ExitCode {
+    let over = calls.iter().filter(|(_, bytes)| *bytes > most);
+    for (name, bytes) in over.clone() {
+        println!("{name} takes {bytes} bytes of stack, more than {most}");
+    }
+    let failed = over.count();
+    println!("{} passed, {failed} failed", calls.len() - failed);
+    ExitCode::from(u8::from(failed > 0))
+}
+
+/// Prints what each call takes in each case; gives the most that each takes.
+fn print_all() -> Vec<(&'static str, usize)> {
     let shapes = [
         ("flat", plans::flat(MOST_ROWS - 1)),
         (
@@ -46,13 +79,18 @@ fn print_all() {
         }
     }
     println!();
+    let mut calls = Vec::new();
     for call in 0..columns[0].len() {
-        print!("{:20}", columns[0][call].0);
+        let name = columns[0][call].0;
+        print!("{name:20}");
         for column in &columns {
             print!("{:10}", column[call].1);
         }
         println!();
+        let most = columns.iter().map(|column| column[call].1).max();
+        calls.push((name, most.unwrap_or(0)));
     }
+    calls
 }
 
 /// Folders one in the other, before each of them sixteen sheets.

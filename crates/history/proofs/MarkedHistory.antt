@@ -71,7 +71,7 @@ told c =
 meant : Case → Told
 meant c = record { refusal = 0; numbers = c .sheets }
 
--- the calls before B; before C; before D; before K's second pass
+-- the calls before B; before C, which comes after B; before D; before K's first and second pass
 first-pass : List Step
 first-pass = event 0 2 1 700 ∷ whole 0 1 ∷ []
 
@@ -81,8 +81,11 @@ changed = first-pass ++ (whole 0 1 ∷ event 0 2 2 701 ∷ event 1 2 2 702 ∷ [
 settled : List Step
 settled = changed ++ (whole 0 1 ∷ settle 0 1 2 2 0 ∷ [])
 
+both-create : List Step
+both-create = event 0 2 1 1 ∷ event 1 2 1 2 ∷ []
+
 two-born : List Step
-two-born = event 0 2 1 1 ∷ event 1 2 1 2 ∷ whole 1 2 ∷ []
+two-born = both-create ++ (whole 1 2 ∷ [])
 
 -- C's conflict on widened tables, settled there by a new row, which device 9 then takes and changes
 widened : List Step
@@ -102,6 +105,7 @@ cases =
     ∷ record { before = event 0 2 1 1 ∷ event 1 2 1 2 ∷ event 1 2 3 0 ∷ []; source = 1; target = 0; sheets = 0 ∷ 0 ∷ 0 ∷ [] }
     ∷ record { before = first-pass ++ (event 0 2 2 1 ∷ event 1 2 3 0 ∷ []); source = 0; target = 1; sheets = 3 ∷ 0 ∷ 0 ∷ [] }
     ∷ record { before = first-pass ++ (event 0 2 3 0 ∷ []); source = 0; target = 1; sheets = 2 ∷ 0 ∷ 0 ∷ [] }
+    ∷ record { before = both-create; source = 1; target = 2; sheets = 1 ∷ 0 ∷ 0 ∷ [] }
     ∷ record { before = two-born; source = 0; target = 1; sheets = 3 ∷ 0 ∷ 0 ∷ [] }
     ∷ record { before = two-born ++ (whole 0 1 ∷ settle 0 1 2 2 0 ∷ []); source = 1; target = 2; sheets = 0 ∷ 0 ∷ 0 ∷ [] }
     ∷ record { before = two-born ++ (whole 0 1 ∷ settle 0 1 2 2 0 ∷ whole 1 2 ∷ []); source = 0; target = 2; sheets = 0 ∷ 0 ∷ 0 ∷ [] }
@@ -120,5 +124,5 @@ cases =
 -- A to K; then a change after A, C's conflict told again, C's conflict settled by theirs and by a new row, and a removal that
 -- goes by way of a device that never had the sheet; and tables that are widened on the way
 marked : map told cases ≡ map meant cases
-unfolding plan columns lent wider whole part number refused told meant first-pass changed settled two-born widened cases computed Knowledge.ruled Knowledge.passed World.begin World.next World.tick World.put World.eventful World.passing World.settling Run.within Run.begun Run.after Run.run
+unfolding plan columns lent wider whole part number refused told meant first-pass changed settled both-create two-born widened cases computed Knowledge.ruled Knowledge.passed World.begin World.next World.tick World.put World.eventful World.passing World.settling Run.within Run.begun Run.after Run.run
 marked = refl

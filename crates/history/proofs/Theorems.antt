@@ -8,6 +8,7 @@ use mathlib.Core.Bool.{true, false, not, _||_, cond}
 use mathlib.Core.List.{List}
 use mathlib.Core.Option.{some}
 use mathlib.Core.Logic.{_⊎_, _↔_}
+use native.Mathlib.Omega.{arith}
 use lib.Dec.{leb, eqb}
 use lib.ListN.{length, getD, take}
 use Rattle.paper.specs.declared.Ruling.the-variants.{Conflict}
@@ -23,7 +24,7 @@ use Rattle.laws.proofs.Tables.{check-facts, checked-written}
 use Rattle.laws.proofs.Widths.{width-either, width-written, widened, widen-same, pass-any}
 use Rattle.laws.proofs.Forests.{shape}
 use Rattle.history.specs.Knowledge.{vectors, sets, passed}
-use Rattle.history.specs.Run.{Step, State, within, devices, Makes, ran, begun}
+use Rattle.history.specs.Run.{Step, State, within, devices, Makes, ran, begun, Without}
 use Rattle.history.specs.Look.{cellAt, both, overAt, beneathFive, tally, levelAt, unheard, widest}
 use Rattle.history.proofs.Bridge.{three}
 use Rattle.history.proofs.CallsAccepted.{pass-accepted}
@@ -31,6 +32,7 @@ use Rattle.history.proofs.NewTables.{planRows}
 use Rattle.history.proofs.RunInvariant.{Kept}
 use Rattle.history.proofs.PlanOfRun.{kept-widths, kept-two, kept-pass, kept-apart, kept-said}
 use Rattle.history.proofs.CallsOnWords.{pass-long, pass-number-at, pass-cell, pass-away, pass-sheets, pass-clock, pass-head, pass-sound, pass-folder, pass-empty, pass-looked, pass-few, new-sound, event-sound, settle-sound}
+use Rattle.history.proofs.LateCounts.{kept-without}
 use Rattle.history.proofs.EveryRun.{begun-kept, run-kept}
 
 -- the invariant after a run, for the proofs of 1 and 2
@@ -54,10 +56,12 @@ demand-3 columns plan lent makes steps a b row list e =
     let said = kept-said columns plan lent makes (ran columns plan lent steps) (kept columns plan lent makes steps) a b row list e in
     record { said = said; conflict = λ j l z. three _ _ (said j l z) }
 
--- 2. NEVER: in a run no call on the tables of two different devices is refused for them but by 19, exactly where their widths
--- differ, and else by 8; so 6 and 7 never occur. A pass between tables of one width is refused by 8 or 9 alone, one between
--- tables of two widths by 19, changing nothing. Every table is sound.
+-- 2. NEVER: in a run no call is refused by 6 and none by 7, whatever two device numbers it is given. The tables of two different
+-- devices are refused by 19, exactly where their widths differ, and else by 8 alone. A pass between tables of one width is
+-- refused by 8 or 9 alone, one between tables of two widths by 19, changing nothing. Every table is sound.
 pub record Never (plan : List ℕ) (s : State) : Type 0 where
+  pub six : Without 6 s
+  pub seven : Without 7 s
   pub widths : (a b row : ℕ) → a < devices → b < devices → (a ≡ b → ⊥) → twoWidths (s .tables a) (s .tables b) ≡ when (not (eqb (widthOf (s .tables a)) (widthOf (s .tables b)))) 19
   pub two : (a b row : ℕ) → a < devices → b < devices → (a ≡ b → ⊥) → widthOf (s .tables a) ≡ widthOf (s .tables b)
       → twoRefused (widthOf (s .tables b)) (s .tables a) (s .tables b) row ≡ when (leb (length plan) row) 8
@@ -72,6 +76,8 @@ never columns plan lent makes steps =
     let s = ran columns plan lent steps in
     let k = kept columns plan lent makes steps in
     record {
+      six = kept-without 6 (omega arith) (omega arith) _ s k;
+      seven = kept-without 7 (omega arith) (omega arith) _ s k;
       widths = kept-widths columns plan lent makes s k;
       two = kept-two columns plan lent makes s k;
       pass = kept-pass columns plan lent makes s k;

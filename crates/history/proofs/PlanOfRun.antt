@@ -19,7 +19,8 @@ use Rattle.paper.specs.Calls.{isFolder, twoRefused, passRefused, Passed}
 use Rattle.laws.proofs.Calls.{pass-number}
 use Rattle.laws.proofs.Refusals.{first-next, when-false, unless-so}
 use Rattle.laws.proofs.Forests.{shape, shape-size, shape-shaped}
-use Rattle.history.specs.Run.{State, Makes, devices}
+use Rattle.paper.specs.Devices.{devices}
+use Rattle.history.specs.Run.{State, Makes}
 use Rattle.history.specs.Look.{cellAt}
 use Rattle.history.proofs.SheetsOfForests.{shape-folder}
 use Rattle.history.proofs.CountersAhead.{early-later}

@@ -23,8 +23,10 @@ use Rattle.paper.specs.Widths.{widthOf, tableAny, checkAny, newAny, widenOf, ev
 use Rattle.laws.proofs.Tables.{check-facts, checked-written}
 use Rattle.laws.proofs.Widths.{width-either, width-written, widened, widen-same, pass-any}
 use Rattle.laws.proofs.Forests.{shape}
-use Rattle.history.specs.Knowledge.{vectors, sets, passed}
-use Rattle.history.specs.Run.{Step, State, within, devices, Makes, ran, begun, Without}
+use Rattle.history.specs.Knowledge.{sets, passed}
+use Rattle.history.specs.Vectors.{vectors}
+use Rattle.paper.specs.Devices.{devices}
+use Rattle.history.specs.Run.{Step, State, within, Makes, ran, begun, Without}
 use Rattle.history.specs.Look.{cellAt, both, overAt, beneathFive, tally, levelAt, unheard, widest}
 use Rattle.history.proofs.Bridge.{three}
 use Rattle.history.proofs.CallsAccepted.{pass-accepted}

@@ -2,7 +2,7 @@
 -- covers exactly those events of the sheet that are in the set. Cells that fit give one ruling, and they fit again when they
 -- are ruled, joined, or told of an own event.
 use Prim.{Unit, tt}
-use Prim.Native.Nat.{ℕ, suc, _≤_, max}
+use Prim.Native.Nat.{ℕ, suc, _≤_, max, _<_}
 use mathlib.Core.Path.{_≡_, refl, sym, ap, ap₂, _∙_}
 use mathlib.Core.Bool.{Bool, true, false, _&&_, _||_, cond}
 use native.Mathlib.Omega.{arith}
@@ -195,6 +195,10 @@ module _ (count : ℕ → ℕ) (d : ℕ) where
 
   up-at : (z : ℕ) → z ≡ d → up z ≡ suc (count d)
   up-at z e = rw (eq-eqb z d e) (ap (λ y. suc (count y)) e)
+
+  -- an event of a log after the next one has a count of at least 1, as those of the log before have
+  pub made-named : (log : Set) (here : Bool) (e : Stamp) → (log e ≡ true → 0 < e .count) → sets .made here fresh log e ≡ true → 0 < e .count
+  made-named log here e h = made-cases here fresh log e (λ k q p₀ p₁. omega (arith, p₁)) h
 
   module _ (log : Set) (past : (e : Stamp) → log e ≡ true → e .count ≤ count (e .device)) (here : Bool) where
     abbrev pub logged : Set

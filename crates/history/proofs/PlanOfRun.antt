@@ -46,12 +46,13 @@ pass-two w s t row list = refl
 
 -- THE PLAN's zeros are the sheets of every table of a run
 module _ (columns : ℕ → ℕ) (plan : List ℕ) (lent : ℕ → List ℕ) (makes : Makes columns plan lent) (s : State) (k : Kept (shape (planRows 16 plan)) s) where
-  sheet-there : (d i : ℕ) → d < devices → getD plan i 1 ≡ 0 → isFolder (cellAt (tableAny (s .tables d)) i) ≡ false
+  pub sheet-there : (d i : ℕ) → d < devices → getD plan i 1 ≡ 0 → isFolder (cellAt (tableAny (s .tables d)) i) ≡ false
   sheet-there d i l z =
       cell-folder (tableAny (s .tables d)) i ∙ ap (λ p. isFolder (sheetHere (subtree p i))) (k .shapes d l) ∙ shape-folder (planRows 16 plan) i
       ∙ plan-sheets (planRows 16 plan) i ∙ ap (λ p. not (eqb (getD p i 1) 0)) (rows-planned columns plan lent makes) ∙ rw z
 
-  kept-size : (d : ℕ) → d < devices → size (tableAny (s .tables d) .tree) ≡ length plan
+  -- every table has as many rows as the plan
+  pub kept-size : (d : ℕ) → d < devices → size (tableAny (s .tables d) .tree) ≡ length plan
   kept-size d l =
       sym (shape-size (tableAny (s .tables d) .tree)) ∙ ap size (k .shapes d l) ∙ shape-size (planRows 16 plan)
       ∙ sym (plan-length (planRows 16 plan)) ∙ ap length (rows-planned columns plan lent makes)

@@ -22,6 +22,7 @@ use Rattle.history.specs.Look.{overFirst, overAt, beneathFive, tally}
 use Rattle.history.proofs.SheetsOfForests.{shape-folder}
 use Rattle.history.proofs.Cells.{greatest-zeros, greatest-assoc, zeros-greatest}
 use Rattle.history.proofs.Bridge.{left-size, right-size, silent-length, answers-length, getD-two}
+use Rattle.history.proofs.CallEffects.{pair-size}
 use Rattle.history.proofs.CallsAccepted.{Two-good, pair-left, pair-right}
 
 -- A SUBTREE OF A SUBTREE
@@ -255,14 +256,11 @@ module _ (w : ℕ) (a b : Table) (row : ℕ) (g : Two-good w a b row) where
       rw (above-subtree (a .tree) row j here-a in-a, above-subtree (b .tree) row j (g .here) h, subtree-subtree (zip (a .tree) (b .tree)) row j here-p in-p, ← pair-left w a b row g, ← pair-right w a b row g)
       (sym (over-here w (a .clock) (b .clock) (pairAt a b row) (above (a .tree) row) (above (b .tree) row) j))
     where
-      size-p : size (pairAt a b row) ≡ size (subtree (b .tree) row)
-      size-p = sym (right-size (pairAt a b row)) ∙ ap size (pair-right w a b row g)
-
       in-p : j < size (pairAt a b row)
-      in-p = omega (arith, size-p)
+      in-p = omega (arith, pair-size w a b row g)
 
       in-a : j < size (subtree (a .tree) row)
-      in-a = omega (arith, size-p, left-size (pairAt a b row), ap size (pair-left w a b row g))
+      in-a = omega (arith, pair-size w a b row g, left-size (pairAt a b row), ap size (pair-left w a b row g))
 
       here-a : row < size (a .tree)
       here-a = omega (arith, g .here, shape-size (a .tree), ap size (g .shapes), shape-size (b .tree))

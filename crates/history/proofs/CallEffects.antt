@@ -27,7 +27,8 @@ use Rattle.history.specs.Vectors.{vectors}
 use Rattle.history.specs.Look.{cellAt, both}
 use Rattle.history.proofs.Cells.{cellIn, zeros-greatest, cell-inside, cell-before, cell-after, cell-subtree, cell-table}
 use Rattle.history.proofs.Summaries.{later-sheet, full-early}
-use Rattle.history.proofs.Bridge.{Said, left-size, right-size, walk-size, walk-cells, walk-said}
+use Rattle.laws.proofs.GoodTrees.{walk-size}
+use Rattle.history.proofs.Bridge.{Said, left-size, right-size, walk-cells, walk-said}
 use Rattle.history.proofs.CallsAccepted.{Two-good, pair-left, pair-right, source-good, source-early, above-narrow, above-early, event-tree, alone-right, settle-tree}
 
 -- which rows are sheets is a matter of shape
@@ -186,11 +187,8 @@ module _ (w : ℕ) (a b : Table) (row : ℕ) (c : Choice) (m : ℕ) (g : Two-goo
       clock true = refl
       clock false = refl
 
-  right-alone : subtree (b .tree) row ≡ sheet (x .b) end
-  right-alone = alone-right w a b row c m g x alone
-
   pub settle-there : (i : ℕ) → eqb i row ≡ false → cellAt (settleDone a b row c m) i ≡ Option·map (reset (record { device = b .clock .device; counter = counted })) (cellAt b i)
-  settle-there i ne = ap (λ t. cellAt t i) settle-table ∙ one-there b row counted (x .b) (settleSheet (a .clock) (b .clock) (above (a .tree) row) c m x) (g .here) right-alone i ne
+  settle-there i ne = ap (λ t. cellAt t i) settle-table ∙ one-there b row counted (x .b) (settleSheet (a .clock) (b .clock) (above (a .tree) row) c m x) (g .here) (alone-right w a b row c m g x alone) i ne
 
   -- b knows what it knew, with its counter as it is now, and what a knew
   pub settle-here : cellAt (settleDone a b row c m) row ≡ some (record {
@@ -200,7 +198,7 @@ module _ (w : ℕ) (a b : Table) (row : ℕ) (c : Choice) (m : ℕ) (g : Two-goo
   unfolding settleSheet mapped
   settle-here =
       ap (λ t. cellAt t row) settle-table
-      ∙ one-here b row counted (x .b) (settleSheet (a .clock) (b .clock) (above (a .tree) row) c m x) (g .here) right-alone
+      ∙ one-here b row counted (x .b) (settleSheet (a .clock) (b .clock) (above (a .tree) row) c m x) (g .here) (alone-right w a b row c m g x alone)
       ∙ ap (λ k. some (record { row = settleRow c (newStamp (b .clock)) m (x .a .row) (x .b .row); known = k })) (fun-ext (λ j. go j (eqb j (b .clock .device)) refl))
     where
       early : full (a .clock) (above (a .tree) row) (x .a .floor) (b .clock .device) ≤ b .clock .counter

@@ -14,7 +14,7 @@ use Rattle.paper.specs.declared.Stamp.{Stamp}
 use Rattle.paper.specs.Columns.{Vec, covers}
 use Rattle.paper.specs.Rules.{Kind, never, live, removed, Row, Heard, news, rule, Cell, ruling}
 use Rattle.paper.specs.Acts.{own}
-use Rattle.laws.proofs.Bools.{and-both}
+use Rattle.laws.proofs.Bools.{and-both, not-so}
 use Rattle.history.specs.Knowledge.{sets, same, ruled, passed}
 use Rattle.history.specs.Vectors.{vectors}
 
@@ -107,11 +107,6 @@ or-second false q e = e
 or-cases : {X : Type 0} (p q : Bool) → (p ≡ true → X) → (q ≡ true → X) → (p || q) ≡ true → X
 or-cases true q f g e = f refl
 or-cases false q f g e = g e
-
--- what is not true is false
-pub not-so : (p : Bool) → (p ≡ true → ⊥) → p ≡ false
-not-so true f = absurd (f refl)
-not-so false f = refl
 
 module _ {count : ℕ → ℕ} {log : Set} {a b : ℕ} {va vb : Cell Vec} {ha hb : Cell Set} (fa : Fits count log a va ha) (fb : Fits count log b vb hb) where
   -- what both know, with a row whose stamp and birth are in the joined set

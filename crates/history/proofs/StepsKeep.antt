@@ -43,6 +43,11 @@ module _ (p : Forest (Unit {0}) (Unit {0})) (s : State) (k : Kept p s) where
   abbrev counter : Vec
   counter x = tableAny (s .tables x) .clock .counter
 
+  -- a device's next event has one name in the world and in its table
+  next-stamp : (d : ℕ) → d < devices → next vectors (k .flat) d ≡ newStamp (T d .clock)
+  unfolding next
+  next-stamp d l = ap₂ (λ x n. record { device = x; count = suc n }) (sym (k .device d l)) (k .counts d)
+
   -- A PASS
   module _ (w : ℕ) (wide : Width w) (a b row : ℕ) (list : List ℕ) (out : Passed) (acc : Pass-accepted w (T a) (T b) row list out) where
     g : Two-good w (T a) (T b) row
@@ -120,24 +125,19 @@ module _ (p : Forest (Unit {0}) (Unit {0})) (s : State) (k : Kept p s) where
     gd : GoodTable w (T d)
     gd = acc .good
 
-    -- the next event has one name in both
-    next-stamp : next vectors (k .flat) d ≡ newStamp (T d .clock)
-    unfolding next
-    next-stamp = ap₂ (λ x n. record { device = x; count = suc n }) (sym (k .device d dw)) (k .counts d)
-
     event-cell : (y : ℕ) → eqb y row ≡ true → eventful vectors (k .flat) d row (eventNamed e) mark .cell d y ≡ record { row = eventRow (eventNamed e) (newStamp (T d .clock)) mark (k .flat .cell d y .row); known = column (T d .clock .device) (suc (T d .clock .counter)) (k .flat .cell d y .known) }
     unfolding eventful
     event-cell y q =
         put-here vectors (tick vectors (k .flat) d row) d (λ y. eqb y row) _ y q
-        ∙ ap₂ (λ (c : Cell Vec) (n : Stamp). record { row = eventRow (eventNamed e) n mark (c .row); known = c .known }) (tick-here vectors (k .flat) d row y) next-stamp
-        ∙ ap (λ (n : Stamp). record { row = eventRow (eventNamed e) (newStamp (T d .clock)) mark (k .flat .cell d y .row); known = column (n .device) (n .count) (k .flat .cell d y .known) }) next-stamp
+        ∙ ap₂ (λ (c : Cell Vec) (n : Stamp). record { row = eventRow (eventNamed e) n mark (c .row); known = c .known }) (tick-here vectors (k .flat) d row y) (next-stamp d dw)
+        ∙ ap (λ (n : Stamp). record { row = eventRow (eventNamed e) (newStamp (T d .clock)) mark (k .flat .cell d y .row); known = column (n .device) (n .count) (k .flat .cell d y .known) }) (next-stamp d dw)
 
     away-cell : (y : ℕ) → eqb y row ≡ false → eventful vectors (k .flat) d row (eventNamed e) mark .cell d y ≡ reset (ticked (T d .clock)) (k .flat .cell d y)
     unfolding eventful
     away-cell y q =
         put-away vectors (tick vectors (k .flat) d row) d (λ y. eqb y row) _ y q
         ∙ tick-here vectors (k .flat) d row y
-        ∙ ap (λ (n : Stamp). record { row = k .flat .cell d y .row; known = column (n .device) (n .count) (k .flat .cell d y .known) }) next-stamp
+        ∙ ap (λ (n : Stamp). record { row = k .flat .cell d y .row; known = column (n .device) (n .count) (k .flat .cell d y .known) }) (next-stamp d dw)
 
     -- what stands at the sheet
     before : cell (T d .clock) (above (T d .tree) row) (acc .sheet) ≡ k .flat .cell d row
@@ -217,10 +217,6 @@ module _ (p : Forest (Unit {0}) (Unit {0})) (s : State) (k : Kept p s) where
     abbrev n : ℕ
     n = counted w (T a) (T b) row c mark g₂ (acc .sheets) (acc .alone)
 
-    next-stamp-b : next vectors (k .flat) b ≡ newStamp (T b .clock)
-    unfolding next
-    next-stamp-b = ap₂ (λ x n. record { device = x; count = suc n }) (sym (k .device b bw₂)) (k .counts b)
-
     abbrev moved : World Vec
     moved = cond (stamps c) (tick vectors (k .flat) b row) (k .flat)
 
@@ -242,7 +238,7 @@ module _ (p : Forest (Unit {0}) (Unit {0})) (s : State) (k : Kept p s) where
     moved-b y = go (stamps c)
       where
         go : (t : Bool) → cond t (tick vectors (k .flat) b row) (k .flat) .cell b y ≡ record { row = k .flat .cell b y .row; known = column (T b .clock .device) (cond t (suc (T b .clock .counter)) (T b .clock .counter)) (k .flat .cell b y .known) }
-        go true = tick-here vectors (k .flat) b row y ∙ ap (λ (m : Stamp). record { row = k .flat .cell b y .row; known = column (m .device) (m .count) (k .flat .cell b y .known) }) next-stamp-b
+        go true = tick-here vectors (k .flat) b row y ∙ ap (λ (m : Stamp). record { row = k .flat .cell b y .row; known = column (m .device) (m .count) (k .flat .cell b y .known) }) (next-stamp b bw₂)
         go false = sym (own-column y)
 
     before-a : cell (T a .clock) (above (T a .tree) row) (acc .sheets .a) ≡ k .flat .cell a row
@@ -259,7 +255,7 @@ module _ (p : Forest (Unit {0}) (Unit {0})) (s : State) (k : Kept p s) where
         at-row =
             subst (λ o. Holds o (settling vectors (k .flat) a b row c mark .cell b row)) (sym (settle-here w (T a) (T b) row c mark g₂ (acc .sheets) (acc .alone)))
             (ap₂ (λ (x : Cell Vec) (z : Cell Vec). record { row = settleRow c (newStamp (T b .clock)) mark (x .row) (z .row); known = greatest (x .known) (column (T b .clock .device) n (z .known)) }) before-a before-b
-            ∙ ap (λ (m : Stamp). record { row = settleRow c m mark (k .flat .cell a row .row) (k .flat .cell b row .row); known = greatest (k .flat .cell a row .known) (column (T b .clock .device) n (k .flat .cell b row .known)) }) (sym next-stamp-b)
+            ∙ ap (λ (m : Stamp). record { row = settleRow c m mark (k .flat .cell a row .row) (k .flat .cell b row .row); known = greatest (k .flat .cell a row .known) (column (T b .clock .device) n (k .flat .cell b row .known)) }) (sym (next-stamp b bw₂))
             ∙ sym (put-here vectors moved b (λ y. eqb y row) _ row (eq-eqb row row refl)
             ∙ ap₂ (λ (x : Cell Vec) (z : Cell Vec). record { row = settleRow c (next vectors (k .flat) b) mark (x .row) (z .row); known = greatest (x .known) (z .known) }) (moved-a row) (moved-b row)))
 

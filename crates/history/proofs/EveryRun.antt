@@ -46,7 +46,8 @@ holds-cond true o q c p r = p
 holds-cond false o q c p r = r
 
 -- nothing is known of a tree with nothing in it
-bare-holds : {X Y : Type 0} (d : ℕ) (f : Forest X Y) (u : Vec) → ((j : ℕ) → u j ≡ 0) → (y : ℕ) → Holds (cellIn (record { device = d; counter = 0 }) (bare f) u y) (record { row = noRow; known = zeros })
+bare-holds : {X Y : Type 0} (d : ℕ) (f : Forest X Y) (u : Vec) → ((j : ℕ) → u j ≡ 0) → (y : ℕ)
+    → Holds (cellIn (record { device = d; counter = 0 }) (bare f) u y) (record { row = noRow; known = zeros })
 unfolding cellIn mapped
 bare-holds d end u h y = tt
 bare-holds d (sheet x r) u h zero = ap (λ v. record { row = noRow; known = v }) (fun-ext (λ j. go j (eqb j d)))
@@ -57,7 +58,8 @@ bare-holds d (sheet x r) u h zero = ap (λ v. record { row = noRow; known = v })
 bare-holds d (sheet x r) u h (suc y) = bare-holds d r u h y
 bare-holds d (folder z k r) u h zero = tt
 bare-holds d (folder z k r) u h (suc y) =
-    holds-cond (ltb y (size (bare k))) (cellIn (record { device = d; counter = 0 }) (bare k) (greatest u zeros) y) (cellIn (record { device = d; counter = 0 }) (bare r) u (y - size (bare k))) (record { row = noRow; known = zeros })
+    holds-cond (ltb y (size (bare k))) (cellIn (record { device = d; counter = 0 }) (bare k) (greatest u zeros) y) (cellIn (record { device = d; counter = 0 }) (bare r) u (y - size (bare k)))
+    (record { row = noRow; known = zeros })
     (bare-holds d k (greatest u zeros) (λ j. omega (arith, h j)) y) (bare-holds d r u h (y - size (bare k)))
 
 module _ (columns : ℕ → ℕ) (plan : List ℕ) (lent : ℕ → List ℕ) (made : Makes columns plan lent) where
@@ -136,12 +138,14 @@ module _ (p : Forest (Unit {0}) (Unit {0})) where
       unless-kept (passAny (s .tables a) (s .tables b) row list .number) s _ k
       (λ q.
       let acc = pass-accepted (s .tables a) (s .tables b) row list q in
-      subst (λ (o : Passed). Kept p (record { tables = replaced (s .tables) b (o .target); past = passing sets (s .past) a b (within row (length list)) })) (sym (acc .done)) (pass-kept p s k (widthOf (s .tables b)) (width-either (s .tables b)) a b row list _ acc))
+      subst (λ (o : Passed). Kept p (record { tables = replaced (s .tables) b (o .target); past = passing sets (s .past) a b (within row (length list)) })) (sym (acc .done))
+      (pass-kept p s k (widthOf (s .tables b)) (width-either (s .tables b)) a b row list _ acc))
   after-kept s (settle a b row c m) k =
       unless-kept (settleAny (s .tables a) (s .tables b) row c m .number) s _ k
       (λ q.
       let acc = settle-accepted (s .tables a) (s .tables b) row c m q in
-      subst (λ (o : Changed). Kept p (record { tables = replaced (s .tables) b (o .table); past = settling sets (s .past) a b row (choiceNamed c) m })) (sym (acc .done)) (settle-kept p s k (widthOf (s .tables b)) (width-either (s .tables b)) a b row c m _ acc))
+      subst (λ (o : Changed). Kept p (record { tables = replaced (s .tables) b (o .table); past = settling sets (s .past) a b row (choiceNamed c) m })) (sym (acc .done))
+      (settle-kept p s k (widthOf (s .tables b)) (width-either (s .tables b)) a b row c m _ acc))
   after-kept s (widen d wider) k =
       unless-kept (widenOf (s .tables d) wider .number) s _ k
       (λ q. subst (λ (o : Changed). Kept p (record { tables = replaced (s .tables) d (o .table); past = s .past })) (sym (widened (s .tables d) wider q .done)) (widen-kept p s k d wider q))

@@ -106,16 +106,21 @@ module _ (n : ℕ) (least : 6 ≤ n) (most : n ≤ 7) where
 
         pass′ : (a b row : ℕ) (list : List ℕ) → passAny (s .tables a) (s .tables b) row list .number ≡ n → ⊥
         pass′ a b row list = unfold passAny in
-            (unless-not (λ (o : Passed). o .number) (twoWidths (s .tables a) (s .tables b)) _ (passOf (widthOf (s .tables b)) (s .tables a) (s .tables b) row list) refl (widths-not (s .tables a) (s .tables b))
-            (λ z e. unfold passRefused in (first-not _ _ (kept-not a b row z) (first-not _ _ (when-not _ 9 (λ e. omega arith)) end-not)) (sym (pass-number (widthOf (s .tables b)) (s .tables a) (s .tables b) row list) ∙ e)))
+            (unless-not (λ (o : Passed). o .number) (twoWidths (s .tables a) (s .tables b)) _ (passOf (widthOf (s .tables b)) (s .tables a) (s .tables b) row list) refl
+            (widths-not (s .tables a) (s .tables b))
+            (λ z e. unfold passRefused in (first-not _ _ (kept-not a b row z) (first-not _ _ (when-not _ 9 (λ e. omega arith)) end-not))
+            (sym (pass-number (widthOf (s .tables b)) (s .tables a) (s .tables b) row list) ∙ e)))
 
         settle′ : (a b row choice mark : ℕ) → settleAny (s .tables a) (s .tables b) row choice mark .number ≡ n → ⊥
         settle′ a b row choice mark = unfold settleAny in
-            (unless-not (λ (o : Changed). o .number) (twoWidths (s .tables a) (s .tables b)) _ (settleOf (widthOf (s .tables b)) (s .tables a) (s .tables b) row choice mark) refl (widths-not (s .tables a) (s .tables b))
+            (unless-not (λ (o : Changed). o .number) (twoWidths (s .tables a) (s .tables b)) _ (settleOf (widthOf (s .tables b)) (s .tables a) (s .tables b) row choice mark) refl
+            (widths-not (s .tables a) (s .tables b))
             (λ z e. unfold settleRefused in (first-not _ _ (kept-not a b row z) (first-not _ _ (when-not _ 16 (λ e. omega arith)) (first-not _ _ (when-not _ 10 (λ e. omega arith))
-            (first-not _ _ (when-not _ 14 (λ e. omega arith)) (first-not _ _ (when-not _ 15 (λ e. omega arith)) end-not))))) (sym (settle-number (widthOf (s .tables b)) (s .tables a) (s .tables b) row choice mark) ∙ e)))
+            (first-not _ _ (when-not _ 14 (λ e. omega arith)) (first-not _ _ (when-not _ 15 (λ e. omega arith)) end-not)))))
+            (sym (settle-number (widthOf (s .tables b)) (s .tables a) (s .tables b) row choice mark) ∙ e)))
 
         standing′ : (a b row : ℕ) → standingAny (s .tables a) (s .tables b) row .number ≡ n → ⊥
         standing′ a b row = unfold standingAny in
-            (unless-not (λ (o : Answered). o .number) (twoWidths (s .tables a) (s .tables b)) _ (standingOf (widthOf (s .tables b)) (s .tables a) (s .tables b) row) refl (widths-not (s .tables a) (s .tables b))
+            (unless-not (λ (o : Answered). o .number) (twoWidths (s .tables a) (s .tables b)) _ (standingOf (widthOf (s .tables b)) (s .tables a) (s .tables b) row) refl
+            (widths-not (s .tables a) (s .tables b))
             (λ z. unfold standingOf standingRefused in (first-not _ _ (kept-not a b row z) (first-not _ _ (when-not _ 10 (λ e. omega arith)) end-not))))

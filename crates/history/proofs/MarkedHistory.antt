@@ -1,5 +1,6 @@
 -- The paper's marked sheets A to K, told by the history: runs of calls on words, in which every call is accepted, and what
 -- the history's sets then say of each sheet, by computation. So the history that demand 3 speaks of is the paper's.
+use Prim.{Unit, tt}
 use Prim.Native.Nat.{ℕ, _*_}
 use mathlib.Core.Bool.{cond}
 use lib.Dec.{ltb}
@@ -121,8 +122,13 @@ cases =
     ∷ record { before = widened; source = 0; target = 9; sheets = 0 ∷ 0 ∷ 0 ∷ [] }
     ∷ []
 
+-- the history's definitions, opened at once
+unfoldable happened : Unit {0}
+unfolding Knowledge.ruled Knowledge.passed World.begin World.next World.tick World.put World.eventful World.passing World.settling Run.within Run.begun Run.after Run.run
+happened = tt
+
 -- A to K; then a change after A, C's conflict told again, C's conflict settled by theirs and by a new row, and a removal that
 -- goes by way of a device that never had the sheet; and tables that are widened on the way
 marked : map told cases ≡ map meant cases
-unfolding plan columns lent wider whole part number refused told meant first-pass changed settled both-create two-born widened cases computed Knowledge.ruled Knowledge.passed World.begin World.next World.tick World.put World.eventful World.passing World.settling Run.within Run.begun Run.after Run.run
+unfolding plan columns lent wider whole part number refused told meant first-pass changed settled both-create two-born widened cases computed happened
 marked = refl

@@ -277,7 +277,8 @@ module _ (w d : ℕ) (plan : List ℕ) (dw : d < w) (some : 0 < length plan) (fe
   unfolding tableOf headWords
   new-read =
       ap (λ t. record { clock = record { device = d; counter = 0 }; tree = t })
-      (ap (λ l. treeFrom w (forestOf (wide w) l)) rows-at ∙ ap (treeFrom w) (sym (front .nothing)) ∙ rows-read w (bare raw) (good-thin w (record { device = d; counter = 0 }) (bare raw) zeros (bare-good w (record { device = d; counter = 0 }) raw zeros)))
+      (ap (λ l. treeFrom w (forestOf (wide w) l)) rows-at ∙ ap (treeFrom w) (sym (front .nothing))
+      ∙ rows-read w (bare raw) (good-thin w (record { device = d; counter = 0 }) (bare raw) zeros (bare-good w (record { device = d; counter = 0 }) raw zeros)))
 
   rows-fit : rowsFit w (tableOf w words .clock) (forestOf (wide w) (drop (wide w) words)) zeros ≡ true
   rows-fit =

@@ -89,8 +89,10 @@ module _ (columns : ℕ → ℕ) (plan : List ℕ) (lent : ℕ → List ℕ) (ma
         rest =
             first-next _ _ (unless-so _ 4 (shape-shaped _ _ (k .shapes a la ∙ sym (k .shapes b lb))))
             ∙ first-next _ _ (when-false _ 5 (ne-eqb _ _ (λ e. ne (sym (k .device a la) ∙ e ∙ k .device b lb))))
-            ∙ first-next _ _ (when-false _ 6 (early-later _ (tableAny (s .tables b) .clock) (ap (λ x. tableAny (s .tables x) .clock .counter) (k .device b lb)) (tableAny (s .tables a) .tree) (k .early a la)))
-            ∙ first-next _ _ (when-false _ 7 (early-later _ (tableAny (s .tables a) .clock) (ap (λ x. tableAny (s .tables x) .clock .counter) (k .device a la)) (tableAny (s .tables b) .tree) (k .early b lb)))
+            ∙ first-next _ _ (when-false _ 6 (early-later _ (tableAny (s .tables b) .clock) (ap (λ x. tableAny (s .tables x) .clock .counter) (k .device b lb)) (tableAny (s .tables a) .tree)
+            (k .early a la)))
+            ∙ first-next _ _ (when-false _ 7 (early-later _ (tableAny (s .tables a) .clock) (ap (λ x. tableAny (s .tables x) .clock .counter) (k .device a la)) (tableAny (s .tables b) .tree)
+            (k .early b lb)))
             ∙ first-one _ ∙ ap (λ n. when (leb n row) 8) (kept-size b lb)
 
     -- so a pass between tables of one width is refused by 8 or 9 alone

@@ -35,7 +35,8 @@ use Rattle.history.proofs.CallsAccepted.{pass-accepted, pass-at}
 use Rattle.history.proofs.NewTables.{planRows}
 use Rattle.history.proofs.RunInvariant.{Kept}
 use Rattle.history.proofs.PlanOfRun.{kept-widths, kept-two, kept-pass, kept-apart, kept-said}
-use Rattle.history.proofs.CallsOnWords.{pass-long, pass-number-at, pass-cell, pass-away, pass-sheets, pass-clock, pass-head, pass-sound, pass-folder, pass-empty, pass-looked, pass-few, new-sound, event-sound, settle-sound}
+use Rattle.history.proofs.CallsOnWords.{pass-long, pass-number-at, pass-cell, pass-away, pass-sheets, pass-clock, pass-head}
+use Rattle.history.proofs.CallsOnWords.{pass-sound, pass-folder, pass-empty, pass-looked, pass-few, new-sound, event-sound, settle-sound}
 use Rattle.history.proofs.ToldByHistory.{event-told, settle-told, made-past}
 use Rattle.history.proofs.LateCounts.{kept-without}
 use Rattle.history.proofs.EveryRun.{begun-kept, run-kept}

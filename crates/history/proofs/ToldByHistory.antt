@@ -104,7 +104,8 @@ module _ (columns : ℕ → ℕ) (plan : List ℕ) (lent : ℕ → List ℕ) (ma
         let x = stands a row la z in
         let y = stands b row lb z in
         let g : Two-good w (tableAny (s .tables a)) (tableAny (s .tables b)) row =
-        subst (λ v. Two-good w (tableOf v (s .tables a)) (tableAny (s .tables b)) row) (sym one) (two-good w (s .tables a) (s .tables b) row (two-accepted w (s .tables a) (s .tables b) row two-none)) in
+        subst (λ v. Two-good w (tableOf v (s .tables a)) (tableAny (s .tables b)) row) (sym one)
+        (two-good w (s .tables a) (s .tables b) row (two-accepted w (s .tables a) (s .tables b) row two-none)) in
         ap (λ v. rulingHere (tableOf v (s .tables a)) (tableAny (s .tables b)) row) (sym one)
         ∙ mapped-here _ _ (pairAt (tableAny (s .tables a)) (tableAny (s .tables b)) row)
         ∙ ap (Option·map _) (pair-here w (tableAny (s .tables a)) (tableAny (s .tables b)) row g (x .sheet) (y .sheet) (x .here) (y .here))
@@ -118,7 +119,8 @@ module _ (columns : ℕ → ℕ) (plan : List ℕ) (lent : ℕ → List ℕ) (ma
     unfolding settleAny settleRefused
     settle-told choice mark n =
         let w = widthOf (s .tables b) in
-        ap (λ (o : Changed). o .number) (unless-none (twoWidths (s .tables a) (s .tables b)) _ (settleOf w (s .tables a) (s .tables b) row choice mark) (kept-widths columns plan lent makes s k a b row la lb ne ∙ unless-so _ 19 (eq-eqb _ _ one)))
+        ap (λ (o : Changed). o .number) (unless-none (twoWidths (s .tables a) (s .tables b)) _ (settleOf w (s .tables a) (s .tables b) row choice mark)
+        (kept-widths columns plan lent makes s k a b row la lb ne ∙ unless-so _ 19 (eq-eqb _ _ one)))
         ∙ settle-number w (s .tables a) (s .tables b) row choice mark
         ∙ first-next _ _ two-none ∙ first-next _ _ (unless-so _ 16 n) ∙ first-next _ _ (when-false _ 10 (ap isFolder ruling-told))
         ∙ ap₂ (λ o c. first (when (not (conflicts o)) 14 ∷ when (stamps (choiceNamed choice) && eqb c lastCount) 15 ∷ [])) ruling-told (counter-past b)

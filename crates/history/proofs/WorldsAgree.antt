@@ -14,7 +14,8 @@ use Rattle.paper.specs.Acts.{Event, creates, changes, removes, isLive, fits, ev
 use Rattle.history.specs.Knowledge.{Sort, sets}
 use Rattle.history.specs.Vectors.{vectors}
 use Rattle.history.specs.World.{World, begin, next, tick, put, eventful, passing, settling}
-use Rattle.history.proofs.CellsFit.{Set, Stamped, Born, born-map, Fits, or-first, or-second, join-fits, take-fits, stay-fits, passed-fits, same-refl, up, fresh, past-up, made-named, other-fits, self-fits}
+use Rattle.history.proofs.CellsFit.{Set, Stamped, Born, born-map, Fits, or-first, or-second, join-fits, take-fits}
+use Rattle.history.proofs.CellsFit.{stay-fits, passed-fits, same-refl, up, fresh, past-up, made-named, other-fits, self-fits}
 
 -- all cells fit; every event of a sheet's log has been made
 pub record Inv (v : World Vec) (h : World Set) : Type 0 where

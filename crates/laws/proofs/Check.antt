@@ -117,7 +117,8 @@ module _ (w : ℕ) (c : Clock) where
   rows-pass (sheet s r) u g = both-and (facts-sheet u (sheetWords w s) (sheet-passes u s (g .0))) (rows-pass r u (g .1))
   rows-pass (folder f k r) u g =
       both-and (ap (folderFits w c (folderRow w f k)) (rows-read w k (good-thin k (greatest u f) (g .1))) ∙ facts-folder (folderRow w f k) k (folder-passes f k (g .0)))
-      (both-and (ap (λ v. rowsFit w c (rowsOf w k) (greatest u v)) (folder-floor w (suc (size k)) f (newest k) (least f k) (most f k) (g .0 .narrow)) ∙ rows-pass k (greatest u f) (g .1)) (rows-pass r u (g .2)))
+      (both-and (ap (λ v. rowsFit w c (rowsOf w k) (greatest u v)) (folder-floor w (suc (size k)) f (newest k) (least f k) (most f k) (g .0 .narrow)) ∙ rows-pass k (greatest u f) (g .1))
+      (rows-pass r u (g .2)))
 
   -- WHAT PASSES IS WRITTEN
 
@@ -157,7 +158,8 @@ module _ (w : ℕ) (c : Clock) where
       cons-eight (sym (s .kind)) (sym (s .rows)) (at 0 (omega arith)) (at 1 (omega arith)) (at 2 (omega arith)) (at 3 (omega arith)) (at 4 (omega arith)) (at 5 (omega arith))
       (ap₂ _++_ (columns-part w floorAt r (omega (arith, s .long)))
       (ap₂ _++_ (alike-part (newestAt w) r (newest k) (omega (arith, s .long)) (f .newest))
-      (ap₂ _++_ (alike-part (leastAt w) r (least (floorOf w r) k) (omega (arith, s .long)) (f .least)) (alike-part (mostAt w) r (most (floorOf w r) k) (omega (arith, s .long)) (f .most)))) ∙ four r (s .long))
+      (ap₂ _++_ (alike-part (leastAt w) r (least (floorOf w r) k) (omega (arith, s .long)) (f .least)) (alike-part (mostAt w) r (most (floorOf w r) k) (omega (arith, s .long)) (f .most))))
+      ∙ four r (s .long))
       ∙ sym (eight r (omega (arith, s .long)))
 
   -- rows that fit are the rows of the tree that they write down

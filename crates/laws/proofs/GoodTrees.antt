@@ -34,7 +34,8 @@ walk-shape w a b (sheet x r) ua ub = ap (sheet tt) (walk-shape w a b r ua ub)
 walk-shape w a b (folder y k r) ua ub = go (over w a b ua ub y k) (walk-shape w a b k (greatest ua (y .a)) (greatest ub (y .b))) (walk-shape w a b r ua ub)
   where
     go : (t : Bool) → shape (walk w a b k (greatest ua (y .a)) (greatest ub (y .b))) ≡ shape (right k) → shape (walk w a b r ua ub) ≡ shape (right r)
-        → shape (cond t (folder (raised b (y .b) (fullLeast a ua (y .a) (left k))) (right k) (walk w a b r ua ub)) (folder (y .b) (walk w a b k (greatest ua (y .a)) (greatest ub (y .b))) (walk w a b r ua ub)))
+        → shape (cond t (folder (raised b (y .b) (fullLeast a ua (y .a) (left k))) (right k) (walk w a b r ua ub))
+        (folder (y .b) (walk w a b k (greatest ua (y .a)) (greatest ub (y .b))) (walk w a b r ua ub)))
         ≡ folder tt (shape (right k)) (shape (right r))
     go true p q = ap (folder tt (shape (right k))) q
     go false p q = ap₂ (folder tt) p q

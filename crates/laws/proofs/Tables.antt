@@ -107,7 +107,8 @@ module _ (w : ℕ) (t : Table) where
     head-passes =
         let r = root-row w (t .tree) (g .root) in
         rw (device-at, count-at, written-length, sign-at)
-        (both-and (lt-ltb _ _ (g .device)) (both-and (lt-ltb _ _ (r .2)) (both-and (le-leb _ _ (g .few)) (both-and (eq-eqb (size (t .tree) * wide w + wide w) (size (t .tree) * wide w + wide w) refl) (both-and (eq-eqb (sign w) (sign w) refl) head-rest)))))
+        (both-and (lt-ltb _ _ (g .device)) (both-and (lt-ltb _ _ (r .2))
+        (both-and (le-leb _ _ (g .few)) (both-and (eq-eqb (size (t .tree) * wide w + wide w) (size (t .tree) * wide w + wide w) refl) (both-and (eq-eqb (sign w) (sign w) refl) head-rest)))))
 
     order-passes : orderFits w (getD (written w t) 2 0) (drop (wide w) (written w t)) ≡ true
     unfolding orderFits
@@ -199,7 +200,8 @@ module _ (w : ℕ) (t : List ℕ) where
         let e : length (take (4 + 4 * w) (drop 4 t)) ≡ 4 + 4 * w = length-take-le (4 + 4 * w) (drop 4 t) (omega (arith, length-drop 4 t, c .head .long)) in
         let z : wide w ≡ 4 + (4 + 4 * w) = omega arith in
         ap₂ (λ n x. getD t 0 0 ∷ getD t 1 0 ∷ getD t 2 0 ∷ n ∷ x) (sym (c .head .sign))
-        (ap₂ _++_ (ap (λ n. replicate n 0) (sym e) ∙ sym (blank-zeros (take (4 + 4 * w) (drop 4 t)) (c .head .rest))) (ap (λ n. drop n t) z ∙ skip 4 (4 + 4 * w) t) ∙ take-append-drop (4 + 4 * w) (drop 4 t))
+        (ap₂ _++_ (ap (λ n. replicate n 0) (sym e) ∙ sym (blank-zeros (take (4 + 4 * w) (drop 4 t)) (c .head .rest))) (ap (λ n. drop n t) z ∙ skip 4 (4 + 4 * w) t)
+        ∙ take-append-drop (4 + 4 * w) (drop 4 t))
         ∙ sym (four t (omega (arith, c .head .long)))
 
     pub checked-written : written w (tableOf w t) ≡ t

@@ -68,7 +68,16 @@ module _ (w : ℕ) where
 
     pub folder-long : length row ≡ wide w
     unfolding folderWords
-    folder-long = omega (arith, length-append (columns w floor) (columns w newest ++ (columns w least ++ columns w most)), length-append (columns w newest) (columns w least ++ columns w most), length-append (columns w least) (columns w most), length-columns w floor, length-columns w newest, length-columns w least, length-columns w most)
+    folder-long = omega (
+      arith,
+      length-append (columns w floor) (columns w newest ++ (columns w least ++ columns w most)),
+      length-append (columns w newest) (columns w least ++ columns w most),
+      length-append (columns w least) (columns w most),
+      length-columns w floor,
+      length-columns w newest,
+      length-columns w least,
+      length-columns w most,
+    )
 
     at-newest : drop (newestAt w) row ≡ columns w newest ++ (columns w least ++ columns w most)
     unfolding folderWords

@@ -67,7 +67,7 @@ module _ (columns : ℕ → ℕ) (plan : List ℕ) (lent : ℕ → List ℕ) (ma
   accepted d l = new-at (columns d) d plan (lent d) (made d l)
 
   -- device 15 has sixteen columns, so the plan's rows stand with sixteen
-  pub rows-planned : planOf (planRows 16 plan) ≡ plan
+  pub rows-planned : planOf (planRows devices plan) ≡ plan
   rows-planned =
       let x = accepted 15 (omega arith) in
       subst (λ w. planOf (planRows w plan) ≡ plan) (sixteen (columns 15) (x .width) (x .device)) (x .planned)
@@ -77,8 +77,8 @@ module _ (columns : ℕ → ℕ) (plan : List ℕ) (lent : ℕ → List ℕ) (ma
       sixteen w (inr e) l = e
 
   -- of one shape with eight columns and with sixteen
-  rows-shape : (d : ℕ) → d < devices → shape (planRows (columns d) plan) ≡ shape (planRows 16 plan)
-  rows-shape d l = plan-shape (planRows (columns d) plan) (planRows 16 plan) (accepted d l .planned ∙ sym rows-planned)
+  rows-shape : (d : ℕ) → d < devices → shape (planRows (columns d) plan) ≡ shape (planRows devices plan)
+  rows-shape d l = plan-shape (planRows (columns d) plan) (planRows devices plan) (accepted d l .planned ∙ sym rows-planned)
 
   abbrev words : ℕ → List ℕ
   words d = newAny (columns d) d plan (lent d) .table
@@ -99,7 +99,7 @@ module _ (columns : ℕ → ℕ) (plan : List ℕ) (lent : ℕ → List ℕ) (ma
   )
 
   -- new tables have nothing in them, and the history no event
-  pub begun-kept : Kept (shape (planRows 16 plan)) (begun columns plan lent)
+  pub begun-kept : Kept (shape (planRows devices plan)) (begun columns plan lent)
   unfolding begun begin
   begun-kept = record {
     sound = λ d l. rw (lt-ltb d devices l) (accepted d l .check);

@@ -4,6 +4,7 @@ use Prim.{Unit, tt}
 use Prim.Native.Nat.{ℕ, _*_}
 use mathlib.Core.Bool.{cond}
 use lib.Dec.{ltb}
+use Rattle.paper.specs.Devices.{devices}
 use Rattle.paper.specs.Words.{wide}
 use mathlib.Core.Path.{_≡_, refl}
 use mathlib.Core.List.{List, [], _∷_, _++_, map}
@@ -30,7 +31,7 @@ lent : ℕ → List ℕ
 lent d = replicate (6 * wide (columns d)) 9
 
 wider : List ℕ
-wider = replicate 432 9
+wider = replicate (6 * wide devices) 9
 
 -- a pass from a to b at the root, and one at row 1; lists of the right length
 whole : ℕ → ℕ → Step

@@ -366,7 +366,7 @@ module _ (p : Forest (Unit {0}) (Unit {0})) (s : State) (k : Kept p s) where
     x = widened (s .tables d) wider e
 
     dw₃ : d < devices
-    dw₃ = there p s k 8 d (x .good)
+    dw₃ = there p s k _ d (x .good)
 
     pub widen-kept : Kept p (record { tables = replaced (s .tables) d (written 16 (T d)); past = s .past })
     widen-kept =

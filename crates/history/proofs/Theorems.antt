@@ -42,8 +42,8 @@ use Rattle.history.proofs.LateCounts.{kept-without}
 use Rattle.history.proofs.EveryRun.{begun-kept, run-kept}
 
 -- the invariant after a run, for the proofs of 1 and 2
-kept : (columns : ℕ → ℕ) (plan : List ℕ) (lent : ℕ → List ℕ) → Makes columns plan lent → (steps : List Step) → Kept (shape (planRows 16 plan)) (ran columns plan lent steps)
-kept columns plan lent makes steps = run-kept (shape (planRows 16 plan)) (begun columns plan lent) steps (begun-kept columns plan lent makes)
+kept : (columns : ℕ → ℕ) (plan : List ℕ) (lent : ℕ → List ℕ) → Makes columns plan lent → (steps : List Step) → Kept (shape (planRows devices plan)) (ran columns plan lent steps)
+kept columns plan lent makes steps = run-kept (shape (planRows devices plan)) (begun columns plan lent) steps (begun-kept columns plan lent makes)
 
 -- 1. DEMAND 3. After any run, for any two devices a and b and any row: if the pass from a to b at that row is accepted, then
 -- at each row of the subtree that is a sheet (a zero of the plan), beneath folders that were passed over too, the number in

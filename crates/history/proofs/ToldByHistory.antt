@@ -53,7 +53,7 @@ pair-here w a b row g x y p q =
     go none e f = let z : _≡_ {A = ℕ} 0 1 = cc in absurd (omega arith)
     go (some z) e f = let p : z .a ≡ x = cc in let q : z .b ≡ y = cc in ap₂ (λ x y. some (record { a = x; b = y })) p q
 
-module _ (columns : ℕ → ℕ) (plan : List ℕ) (lent : ℕ → List ℕ) (makes : Makes columns plan lent) (s : State) (k : Kept (shape (planRows 16 plan)) s) where
+module _ (columns : ℕ → ℕ) (plan : List ℕ) (lent : ℕ → List ℕ) (makes : Makes columns plan lent) (s : State) (k : Kept (shape (planRows devices plan)) s) where
   -- the sheet that stands at a row, and its cell
   record Stands (d i : ℕ) : Type 0 where
     sheet : Sheet

@@ -22,6 +22,7 @@ use Rattle.history.specs.Look.{overFirst, overAt, beneathFive, tally}
 use Rattle.history.proofs.SheetsOfForests.{shape-folder}
 use Rattle.history.proofs.Cells.{greatest-zeros, greatest-assoc, zeros-greatest}
 use Rattle.history.proofs.Bridge.{left-size, right-size, silent-length, answers-length, getD-two}
+use Rattle.history.proofs.CallEffects.{pair-size}
 use Rattle.history.proofs.CallsAccepted.{Two-good, pair-left, pair-right}
 
 -- A SUBTREE OF A SUBTREE
@@ -149,7 +150,8 @@ module _ (w : ℕ) (a b : Clock) where
           → overIn k (greatest ua (y .a)) (greatest ub (y .b)) j ≡ overFirst w a b (greatest (greatest ua (y .a)) (above (left k) j)) (greatest (greatest ub (y .b)) (above (right k) j)) (subtree k j)
           → overIn r ua ub (j - size k) ≡ overFirst w a b (greatest ua (above (left r) (j - size k))) (greatest ub (above (right r) (j - size k))) (subtree r (j - size k))
           → cond t (overIn k (greatest ua (y .a)) (greatest ub (y .b)) j) (overIn r ua ub (j - size k))
-          ≡ overFirst w a b (greatest ua (cond t (greatest (y .a) (above (left k) j)) (above (left r) (j - size k)))) (greatest ub (cond t (greatest (y .b) (above (right k) j)) (above (right r) (j - size k)))) (cond t (subtree k j) (subtree r (j - size k)))
+          ≡ overFirst w a b (greatest ua (cond t (greatest (y .a) (above (left k) j)) (above (left r) (j - size k))))
+          (greatest ub (cond t (greatest (y .b) (above (right k) j)) (above (right r) (j - size k)))) (cond t (subtree k j) (subtree r (j - size k)))
       go true p q = p ∙ ap₂ (λ u v. overFirst w a b u v (subtree k j)) (greatest-assoc ua (y .a) (above (left k) j)) (greatest-assoc ub (y .b) (above (right k) j))
       go false p q = q
 
@@ -163,7 +165,8 @@ module _ (w : ℕ) (a b : Clock) where
   silent-folder (folder y k r) (suc j) h e =
       getD-two (silent k) (silent r) (size k) j 0 (silent-length k) ∙ go (ltb j (size k)) refl (silent-folder k j) (silent-folder r (j - size k)) e
     where
-      go : (t : Bool) → ltb j (size k) ≡ t → (j < size k → isFolder (sheetHere (subtree k j)) ≡ true → getD (silent k) j 0 ≡ 5) → (j - size k < size r → isFolder (sheetHere (subtree r (j - size k))) ≡ true → getD (silent r) (j - size k) 0 ≡ 5)
+      go : (t : Bool) → ltb j (size k) ≡ t → (j < size k → isFolder (sheetHere (subtree k j)) ≡ true → getD (silent k) j 0 ≡ 5)
+          → (j - size k < size r → isFolder (sheetHere (subtree r (j - size k))) ≡ true → getD (silent r) (j - size k) 0 ≡ 5)
           → isFolder (sheetHere (cond t (subtree k j) (subtree r (j - size k)))) ≡ true → cond t (getD (silent k) j 0) (getD (silent r) (j - size k) 0) ≡ 5
       go true q p₁ p₂ e = p₁ (ltb-true j (size k) q) e
       go false q p₁ p₂ e = let m : size k ≤ j = ltb-false j (size k) q in p₂ (omega arith) e
@@ -183,11 +186,15 @@ module _ (w : ℕ) (a b : Clock) where
   folder-number (folder y k r) ua ub (suc j) h e = go (over w a b ua ub y k) (ltb j (size k)) refl (folder-number k (greatest ua (y .a)) (greatest ub (y .b)) j) (folder-number r ua ub (j - size k)) e
     where
       go : (t u : Bool) → ltb j (size k) ≡ u
-          → (j < size k → isFolder (sheetHere (subtree k j)) ≡ true → getD (answers w a b k (greatest ua (y .a)) (greatest ub (y .b))) j 0 ≡ cond (beneathFive k (answers w a b k (greatest ua (y .a)) (greatest ub (y .b))) j || overIn k (greatest ua (y .a)) (greatest ub (y .b)) j) 5 4)
-          → (j - size k < size r → isFolder (sheetHere (subtree r (j - size k))) ≡ true → getD (answers w a b r ua ub) (j - size k) 0 ≡ cond (beneathFive r (answers w a b r ua ub) (j - size k) || overIn r ua ub (j - size k)) 5 4)
+          → (j < size k → isFolder (sheetHere (subtree k j)) ≡ true
+          → getD (answers w a b k (greatest ua (y .a)) (greatest ub (y .b))) j 0
+          ≡ cond (beneathFive k (answers w a b k (greatest ua (y .a)) (greatest ub (y .b))) j || overIn k (greatest ua (y .a)) (greatest ub (y .b)) j) 5 4)
+          → (j - size k < size r → isFolder (sheetHere (subtree r (j - size k))) ≡ true
+          → getD (answers w a b r ua ub) (j - size k) 0 ≡ cond (beneathFive r (answers w a b r ua ub) (j - size k) || overIn r ua ub (j - size k)) 5 4)
           → isFolder (sheetHere (cond u (subtree k j) (subtree r (j - size k)))) ≡ true
           → getD (cond t (5 ∷ silent k ++ answers w a b r ua ub) (4 ∷ answers w a b k (greatest ua (y .a)) (greatest ub (y .b)) ++ answers w a b r ua ub)) (suc j) 0
-          ≡ cond (beneathFive (folder y k r) (cond t (5 ∷ silent k ++ answers w a b r ua ub) (4 ∷ answers w a b k (greatest ua (y .a)) (greatest ub (y .b)) ++ answers w a b r ua ub)) (suc j) || cond u (overIn k (greatest ua (y .a)) (greatest ub (y .b)) j) (overIn r ua ub (j - size k))) 5 4
+          ≡ cond (beneathFive (folder y k r) (cond t (5 ∷ silent k ++ answers w a b r ua ub) (4 ∷ answers w a b k (greatest ua (y .a)) (greatest ub (y .b)) ++ answers w a b r ua ub)) (suc j)
+          || cond u (overIn k (greatest ua (y .a)) (greatest ub (y .b)) j) (overIn r ua ub (j - size k))) 5 4
       go true true q p₁ p₂ e =
           let m : j < size k = ltb-true j (size k) q in
           List·getD-append (silent k) (answers w a b r ua ub) 0 j (omega (arith, silent-length k)) ∙ silent-folder k j m e
@@ -200,7 +207,8 @@ module _ (w : ℕ) (a b : Clock) where
           let m : j < size k = ltb-true j (size k) q in
           let l = answers-length w a b k (greatest ua (y .a)) (greatest ub (y .b)) in
           getD-two (answers w a b k (greatest ua (y .a)) (greatest ub (y .b))) (answers w a b r ua ub) (size k) j 0 l ∙ rw q (p₁ m e)
-          ∙ sym (ap (λ z. cond (z || overIn k (greatest ua (y .a)) (greatest ub (y .b)) j) 5 4) (beneath-first y k r 4 (answers w a b k (greatest ua (y .a)) (greatest ub (y .b))) (answers w a b r ua ub) l j m))
+          ∙ sym (ap (λ z. cond (z || overIn k (greatest ua (y .a)) (greatest ub (y .b)) j) 5 4)
+          (beneath-first y k r 4 (answers w a b k (greatest ua (y .a)) (greatest ub (y .b))) (answers w a b r ua ub) l j m))
       go false false q p₁ p₂ e =
           let m : size k ≤ j = ltb-false j (size k) q in
           let l = answers-length w a b k (greatest ua (y .a)) (greatest ub (y .b)) in
@@ -226,7 +234,8 @@ module _ (w : ℕ) (a b : Clock) where
       go : (t : Bool) → looked w a b k (greatest ua (y .a)) (greatest ub (y .b)) ≡ tally (size k) (λ j. not (beneathFive k (answers w a b k (greatest ua (y .a)) (greatest ub (y .b))) j))
           → looked w a b r ua ub ≡ tally (size r) (λ j. not (beneathFive r (answers w a b r ua ub) j))
           → suc (cond t 0 (looked w a b k (greatest ua (y .a)) (greatest ub (y .b))) + looked w a b r ua ub)
-          ≡ 1 + tally (size k + size r) (λ j. not (beneathFive (folder y k r) (cond t (5 ∷ silent k ++ answers w a b r ua ub) (4 ∷ answers w a b k (greatest ua (y .a)) (greatest ub (y .b)) ++ answers w a b r ua ub)) (suc j)))
+          ≡ 1 + tally (size k + size r) (λ j. not (beneathFive (folder y k r)
+          (cond t (5 ∷ silent k ++ answers w a b r ua ub) (4 ∷ answers w a b k (greatest ua (y .a)) (greatest ub (y .b)) ++ answers w a b r ua ub)) (suc j)))
       go true p q = omega (arith, parts 5 (silent k) (silent-length k), tally-none (size k))
       go false p q = omega (arith, parts 4 (answers w a b k (greatest ua (y .a)) (greatest ub (y .b))) (answers-length w a b k (greatest ua (y .a)) (greatest ub (y .b))))
 
@@ -252,17 +261,20 @@ module _ (w : ℕ) (a b : Table) (row : ℕ) (g : Two-good w a b row) where
   pub over-table : (j : ℕ) → j < size (subtree (b .tree) row) → overAt w a b (row + j) ≡ overIn w (a .clock) (b .clock) (pairAt a b row) (above (a .tree) row) (above (b .tree) row) j
   unfolding overAt
   over-table j h =
-      rw (above-subtree (a .tree) row j here-a in-a, above-subtree (b .tree) row j (g .here) h, subtree-subtree (zip (a .tree) (b .tree)) row j here-p in-p, ← pair-left w a b row g, ← pair-right w a b row g)
+      rw (
+        above-subtree (a .tree) row j here-a in-a,
+        above-subtree (b .tree) row j (g .here) h,
+        subtree-subtree (zip (a .tree) (b .tree)) row j here-p in-p,
+        ← pair-left w a b row g,
+        ← pair-right w a b row g,
+      )
       (sym (over-here w (a .clock) (b .clock) (pairAt a b row) (above (a .tree) row) (above (b .tree) row) j))
     where
-      size-p : size (pairAt a b row) ≡ size (subtree (b .tree) row)
-      size-p = sym (right-size (pairAt a b row)) ∙ ap size (pair-right w a b row g)
-
       in-p : j < size (pairAt a b row)
-      in-p = omega (arith, size-p)
+      in-p = omega (arith, pair-size w a b row g)
 
       in-a : j < size (subtree (a .tree) row)
-      in-a = omega (arith, size-p, left-size (pairAt a b row), ap size (pair-left w a b row g))
+      in-a = omega (arith, pair-size w a b row g, left-size (pairAt a b row), ap size (pair-left w a b row g))
 
       here-a : row < size (a .tree)
       here-a = omega (arith, g .here, shape-size (a .tree), ap size (g .shapes), shape-size (b .tree))

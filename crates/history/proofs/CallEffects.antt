@@ -22,11 +22,13 @@ use Rattle.laws.proofs.Tables.{head-long}
 use Rattle.paper.specs.Good.{GoodTable}
 use Rattle.paper.specs.Calls.{newStamp, ticked, eventSheet, eventDone, pairAt, passDone, isFolder, settleSheet, settleDone}
 use Rattle.laws.proofs.Forests.{mapped-here, mapped-subtree, shape, shape-size}
-use Rattle.history.specs.Knowledge.{vectors, passed}
+use Rattle.history.specs.Knowledge.{passed}
+use Rattle.history.specs.Vectors.{vectors}
 use Rattle.history.specs.Look.{cellAt, both}
 use Rattle.history.proofs.Cells.{cellIn, zeros-greatest, cell-inside, cell-before, cell-after, cell-subtree, cell-table}
 use Rattle.history.proofs.Summaries.{later-sheet, full-early}
-use Rattle.history.proofs.Bridge.{Said, left-size, right-size, walk-size, walk-cells, walk-said}
+use Rattle.laws.proofs.GoodTrees.{walk-size}
+use Rattle.history.proofs.Bridge.{Said, left-size, right-size, walk-cells, walk-said}
 use Rattle.history.proofs.CallsAccepted.{Two-good, pair-left, pair-right, source-good, source-early, above-narrow, above-early, event-tree, alone-right, settle-tree}
 
 -- which rows are sheets is a matter of shape
@@ -75,7 +77,8 @@ module _ (w : ℕ) (a b : Table) (row : ℕ) (g : Two-good w a b row) where
       cell-table (passDone w a b row) (row + j)
       ∙ cell-inside (b .clock) walked (b .tree) row zeros j (g .here) walked-size (omega (arith, walked-size))
       ∙ ap (λ u. cellIn (b .clock) walked u j) (zeros-greatest (above (b .tree) row))
-      ∙ walk-cells w (a .clock) (b .clock) (g .apart) (pairAt a b row) (above (a .tree) row) (above (b .tree) row) (source-good w a b row g) (above-narrow w a b row g) (source-early w a b row g) (above-early w a b row g) j
+      ∙ walk-cells w (a .clock) (b .clock) (g .apart) (pairAt a b row) (above (a .tree) row) (above (b .tree) row) (source-good w a b row g) (above-narrow w a b row g) (source-early w a b row g)
+      (above-early w a b row g) j
       ∙ ap₂ (both (passed vectors)) (sym (source-cell j h)) (sym (target-cell j h))
 
   -- and no other
@@ -105,7 +108,8 @@ column-column d m n v = fun-ext (λ j. go j (eqb j d))
     go j true = refl
     go j false = refl
 
-pub reset-cells : (c : Clock) (n : ℕ) (t : Tree) (u : Vec) (i : ℕ) → cellIn (record { device = c .device; counter = n }) t u i ≡ Option·map (reset (record { device = c .device; counter = n })) (cellIn c t u i)
+pub reset-cells : (c : Clock) (n : ℕ) (t : Tree) (u : Vec) (i : ℕ)
+    → cellIn (record { device = c .device; counter = n }) t u i ≡ Option·map (reset (record { device = c .device; counter = n })) (cellIn c t u i)
 unfolding cellIn
 reset-cells c n end u i = refl
 reset-cells c n (sheet s r) u zero = ap (λ k. some (record { row = s .row; known = k })) (column-column (c .device) n (c .counter) (greatest u (s .floor)))
@@ -177,7 +181,10 @@ module _ (w : ℕ) (a b : Table) (row : ℕ) (c : Choice) (m : ℕ) (g : Two-goo
   abbrev pub counted : ℕ
   counted = cond (stamps c) (suc (b .clock .counter)) (b .clock .counter)
 
-  settle-table : settleDone a b row c m ≡ record { clock = record { device = b .clock .device; counter = counted }; tree = graft (b .tree) row (sheet (settleSheet (a .clock) (b .clock) (above (a .tree) row) c m x) end) }
+  settle-table : settleDone a b row c m ≡ record {
+    clock = record { device = b .clock .device; counter = counted };
+    tree = graft (b .tree) row (sheet (settleSheet (a .clock) (b .clock) (above (a .tree) row) c m x) end);
+  }
   unfolding settleDone
   settle-table = ap₂ (λ k t. record { clock = k; tree = t }) (clock (stamps c)) (settle-tree w a b row c m g x alone)
     where
@@ -185,11 +192,9 @@ module _ (w : ℕ) (a b : Table) (row : ℕ) (c : Choice) (m : ℕ) (g : Two-goo
       clock true = refl
       clock false = refl
 
-  right-alone : subtree (b .tree) row ≡ sheet (x .b) end
-  right-alone = alone-right w a b row c m g x alone
-
   pub settle-there : (i : ℕ) → eqb i row ≡ false → cellAt (settleDone a b row c m) i ≡ Option·map (reset (record { device = b .clock .device; counter = counted })) (cellAt b i)
-  settle-there i ne = ap (λ t. cellAt t i) settle-table ∙ one-there b row counted (x .b) (settleSheet (a .clock) (b .clock) (above (a .tree) row) c m x) (g .here) right-alone i ne
+  settle-there i ne =
+      ap (λ t. cellAt t i) settle-table ∙ one-there b row counted (x .b) (settleSheet (a .clock) (b .clock) (above (a .tree) row) c m x) (g .here) (alone-right w a b row c m g x alone) i ne
 
   -- b knows what it knew, with its counter as it is now, and what a knew
   pub settle-here : cellAt (settleDone a b row c m) row ≡ some (record {
@@ -199,7 +204,7 @@ module _ (w : ℕ) (a b : Table) (row : ℕ) (c : Choice) (m : ℕ) (g : Two-goo
   unfolding settleSheet mapped
   settle-here =
       ap (λ t. cellAt t row) settle-table
-      ∙ one-here b row counted (x .b) (settleSheet (a .clock) (b .clock) (above (a .tree) row) c m x) (g .here) right-alone
+      ∙ one-here b row counted (x .b) (settleSheet (a .clock) (b .clock) (above (a .tree) row) c m x) (g .here) (alone-right w a b row c m g x alone)
       ∙ ap (λ k. some (record { row = settleRow c (newStamp (b .clock)) m (x .a .row) (x .b .row); known = k })) (fun-ext (λ j. go j (eqb j (b .clock .device)) refl))
     where
       early : full (a .clock) (above (a .tree) row) (x .a .floor) (b .clock .device) ≤ b .clock .counter

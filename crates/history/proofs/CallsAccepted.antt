@@ -8,7 +8,7 @@ use mathlib.Core.List.{List}
 use mathlib.Core.Option.{Option, none, some, Option·map}
 use native.Mathlib.Omega.{arith}
 use lib.ListN.{length}
-use borrow.Author.Tests.{leb-false}
+use borrow.Author.Tests.{eq-eqb, leb-false}
 use Rattle.paper.specs.declared.Ruling.{Ruling}
 use Rattle.paper.specs.declared.Ruling.the-variants.{KeepOwn, KeepTheirs, Copy, Remove, Conflict}
 use Rattle.paper.specs.Columns.{zeros, greatest, Narrow}
@@ -17,17 +17,19 @@ use Rattle.paper.specs.Acts.{Event, fits, Choice, stamps}
 use Rattle.paper.specs.Tree.{Forest, end, sheet, mapped, size, levels, subtree, graft, sheetHere, shaped, Sheet, above, later}
 use Rattle.paper.specs.Walk.{Two, zip, left, right, ruleAt, walk, answers, looked}
 use Rattle.paper.specs.Words.{Table, tableOf, written}
+use Rattle.paper.specs.Refusals.{tens}
 use Rattle.paper.specs.Check.{checkOf}
 use Rattle.paper.specs.Good.{rooted, GoodSheet, Good, GoodTable}
-use Rattle.paper.specs.Calls.{Changed, Passed, eventNamed, fitsSheet, newStamp, ticked, eventRefused, eventSheet, eventDone, eventOf, twoRefused, pairAt, passRefused, passDone, rulingHere, choiceNamed, conflicts, settleRefused, settleSheet, settleDone}
+use Rattle.paper.specs.Calls.{Changed, Passed, eventNamed, fitsSheet, newStamp, ticked, eventRefused, eventSheet, eventDone, eventOf}
+use Rattle.paper.specs.Calls.{twoRefused, pairAt, passRefused, passDone, passOf, rulingHere, choiceNamed, conflicts, settleRefused, settleSheet, settleDone}
 use Rattle.laws.proofs.Calls
 use Rattle.laws.proofs.Calls.{event-number, pass-number, settle-number, event-done, pass-done, settle-done, Accepted, two-accepted}
-use Rattle.laws.proofs.Refusals.{first-both, when-none, none-so}
+use Rattle.laws.proofs.Refusals.{first-none, first-both, first-next, when-none, none-so, unless-so}
 use Rattle.laws.proofs.Tables.{check-facts, checked-good}
 use Rattle.laws.proofs.Forests.{mapped-subtree, mapped-here, shape, shape-size, shape-levels, shape-rooted, graft-shape, shaped-shape, zip-left, zip-right, sheet-alone}
 use Rattle.history.proofs.WorldsAgree.{Opposed, opposed}
-use Rattle.paper.specs.Widths.{widthOf, tableAny, passAny, settleAny}
-use Rattle.laws.proofs.Widths.{pass-any, settle-any}
+use Rattle.paper.specs.Widths.{Width, widthOf, tableAny, checkAny, twoWidths, passAny, settleAny}
+use Rattle.laws.proofs.Widths.{width-written, any-passes, pass-any, pass-through, settle-any}
 use Rattle.history.proofs.Cells.{zeros-greatest}
 use Rattle.history.proofs.Summaries.{later-sheet}
 use Rattle.laws.proofs.GoodTrees.{good-subtree, walk-shape}
@@ -138,6 +140,18 @@ pass-accepted s t row list e =
     subst (λ v. Pass-accepted w (tableOf v s) (tableAny t) row list (passAny s t row list)) (sym (x .two .one))
     (record { two = two-good w s t row (g .0); long = g .1; done = x .same ∙ pass-done w s t row list r })
 
+-- a pass that is accepted at a width is the pass at the width that the tables' heads name
+pub pass-at : (w : ℕ) → Width w → (s t : List ℕ) (row : ℕ) (list : List ℕ) → passOf w s t row list .number ≡ 0 → passAny s t row list ≡ passOf w s t row list
+unfolding twoWidths
+pass-at w either s t row list e =
+    let g = Calls.pass-accepted w s t row list (sym (pass-number w s t row list) ∙ e) .0 in
+    let ws : widthOf s ≡ w = ap widthOf (sym (g .sourceWords)) ∙ width-written w either (tableOf w s) in
+    let wt : widthOf t ≡ w = ap widthOf (sym (g .targetWords)) ∙ width-written w either (tableOf w t) in
+    let cs : checkAny s ≡ 0 = ap checkAny (sym (g .sourceWords)) ∙ any-passes w either (tableOf w s) (g .source) in
+    let ct : checkAny t ≡ 0 = ap checkAny (sym (g .targetWords)) ∙ any-passes w either (tableOf w t) (g .target) in
+    pass-through s t row list (first-next _ _ cs ∙ first-next _ _ (ap tens ct ∙ unfold tens in refl) ∙ first-next _ _ (unless-so _ 19 (eq-eqb _ _ (ws ∙ sym wt))) ∙ first-none)
+    ∙ ap (λ v. passOf v s t row list) wt
+
 -- AN EVENT
 pub record Event-accepted (w : ℕ) (t : List ℕ) (row event mark : ℕ) : Type 0 where
   pub good : GoodTable w (tableOf w t)
@@ -162,7 +176,14 @@ event-accepted w t row event mark e =
     let z = first-both _ _ (y .1) in
     let u = first-both _ _ (z .1) in
     let f = fits-sheet (eventNamed event) (sheetHere (subtree (tableOf w t .tree) row)) (none-so _ 9 (u .0)) in
-    record { good = checked-good w t (check-facts w t (x .0)); sheet = f .0; alone = sheet-alone (tableOf w t .tree) row (f .0) (f .1); fit = f .2; here = leb-false _ _ (when-none _ 7 (z .0)); done = event-done w t row event mark r }
+    record {
+      good = checked-good w t (check-facts w t (x .0));
+      sheet = f .0;
+      alone = sheet-alone (tableOf w t .tree) row (f .0) (f .1);
+      fit = f .2;
+      here = leb-false _ _ (when-none _ 7 (z .0));
+      done = event-done w t row event mark r;
+    }
 
 module _ (w : ℕ) (b : Table) (row : ℕ) (e : Event) (m : ℕ) (g : GoodTable w b) (s : Sheet) (alone : subtree (b .tree) row ≡ sheet s end) where
   -- the one sheet is changed
@@ -177,7 +198,8 @@ module _ (w : ℕ) (b : Table) (row : ℕ) (e : Event) (m : ℕ) (g : GoodTable 
 
   -- and leaves a good table
   pub event-table-good : fits e (s .row .kind) ≡ true → GoodTable w (eventDone b row e m)
-  event-table-good q = changed-good w b (eventDone b row e m) g (unfold eventDone in refl) event-shape (subst (λ t. Good w (eventDone b row e m .clock) t zeros) (sym event-tree) (unfold eventDone in rows))
+  event-table-good q =
+      changed-good w b (eventDone b row e m) g (unfold eventDone in refl) event-shape (subst (λ t. Good w (eventDone b row e m .clock) t zeros) (sym event-tree) (unfold eventDone in rows))
     where
       here : GoodSheet w (b .clock) (greatest zeros (above (b .tree) row)) s
       here = (subst (λ t. Good w (b .clock) t (greatest zeros (above (b .tree) row))) alone (good-subtree w (b .clock) (b .tree) row zeros (g .rows))) .0
@@ -212,7 +234,8 @@ map-some f none y e = let z : _≡_ {A = ℕ} 0 1 = cc in absurd (omega arith)
 map-some f (some x) y e = (x, refl, cc)
 
 -- the number 0 says so
-pub settle-accepted : (s t : List ℕ) (row choice mark : ℕ) → settleAny s t row choice mark .number ≡ 0 → Settle-accepted (widthOf t) (tableAny s) (tableAny t) row choice mark (settleAny s t row choice mark)
+pub settle-accepted : (s t : List ℕ) (row choice mark : ℕ) → settleAny s t row choice mark .number ≡ 0
+    → Settle-accepted (widthOf t) (tableAny s) (tableAny t) row choice mark (settleAny s t row choice mark)
 unfolding settleRefused rulingHere
 settle-accepted s t row choice mark e =
     let w = widthOf t in
@@ -287,6 +310,7 @@ module _ (w : ℕ) (a b : Table) (row : ℕ) (c : Choice) (m : ℕ) (g : Two-goo
       rows =
           good-graft w (cond (stamps c) (ticked (b .clock)) (b .clock)) (b .tree) row (sheet (settleSheet (a .clock) (b .clock) (above (a .tree) row) c m x) end) zeros (tick (stamps c)) (
             subst (λ u. GoodSheet w (cond (stamps c) (ticked (b .clock)) (b .clock)) u (settleSheet (a .clock) (b .clock) (above (a .tree) row) c m x)) (sym (zeros-greatest (above (b .tree) row)))
-                (settle-good w (a .clock) (b .clock) (g .source .device) (g .target .device) (g .apart) (above (a .tree) row) (above (b .tree) row) x (both-good .0) (both-good .1) (above-narrow w a b row g) (above-early w a b row g) early c m kinds),
+                (settle-good w (a .clock) (b .clock) (g .source .device) (g .target .device) (g .apart) (above (a .tree) row) (above (b .tree) row) x (both-good .0) (both-good .1)
+                (above-narrow w a b row g) (above-early w a b row g) early c m kinds),
             tt,
           )

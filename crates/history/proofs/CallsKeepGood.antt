@@ -38,8 +38,14 @@ known-more v v′ h removed r e = covers-more v v′ h (r .stamp) e
 -- higher floors above
 good-more : (w : ℕ) (c : Clock) (t : Tree) (u u′ : Vec) → ((j : ℕ) → u j ≤ u′ j) → Good w c t u → Good w c t u′
 good-more w c end u u′ h g = tt
-good-more w c (sheet s r) u u′ h g =
-    (record { floor = g .0 .floor; laid = g .0 .laid; known = known-more _ _ (λ j. full-more c u u′ (s .floor) (s .floor) j (omega (arith, h j))) (s .row .kind) (s .row) (g .0 .known) }, good-more w c r u u′ h (g .1))
+good-more w c (sheet s r) u u′ h g = (
+  record {
+    floor = g .0 .floor;
+    laid = g .0 .laid;
+    known = known-more _ _ (λ j. full-more c u u′ (s .floor) (s .floor) j (omega (arith, h j))) (s .row .kind) (s .row) (g .0 .known);
+  },
+  good-more w c r u u′ h (g .1),
+)
 good-more w c (folder f k r) u u′ h g = (g .0, good-more w c k (greatest u f) (greatest u′ f) (λ j. omega (arith, h j)) (g .1), good-more w c r u u′ h (g .2))
 
 -- THE WALK, from a to b
@@ -69,7 +75,8 @@ module _ (w : ℕ) (a b : Clock) (la : a .device < w) (lb : b .device < w) (apar
         go false e = omega arith
 
   -- one sheet, raised, with b's row or with a's
-  module _ (ua ub : Vec) (x : Two Sheet) (ga : GoodSheet w a ua (x .a)) (gb : GoodSheet w b ub (x .b)) (nu : Narrow w ua) (hu : ua (b .device) ≤ b .counter) (hx : x .a .floor (b .device) ≤ b .counter) where
+  module _ (ua ub : Vec) (x : Two Sheet) (ga : GoodSheet w a ua (x .a)) (gb : GoodSheet w b ub (x .b)) (nu : Narrow w ua) (hu : ua (b .device) ≤ b .counter)
+      (hx : x .a .floor (b .device) ≤ b .counter) where
     -- the raised floor is good
     pub floor-good : GoodFloor w b (raised b (x .b .floor) (full a ua (x .a .floor)))
     floor-good = raised-good ua (x .a .floor) (x .b .floor) nu (ga .floor .narrow) (gb .floor .narrow)
@@ -78,7 +85,8 @@ module _ (w : ℕ) (a b : Clock) (la : a .device < w) (lb : b .device < w) (apar
     pub stays-known : known (full b ub (raised b (x .b .floor) (full a ua (x .a .floor)))) (x .b .row .kind) (x .b .row) ≡ true
     stays-known =
         known-more (full b ub (x .b .floor)) (full b ub (raised b (x .b .floor) (full a ua (x .a .floor))))
-        (λ j. full-more b ub ub (x .b .floor) (raised b (x .b .floor) (full a ua (x .a .floor))) j (omega (arith, raised-more ua (x .a .floor) (x .b .floor) (gb .floor .own) j))) (x .b .row .kind) (x .b .row) (gb .known)
+        (λ j. full-more b ub ub (x .b .floor) (raised b (x .b .floor) (full a ua (x .a .floor))) j (omega (arith, raised-more ua (x .a .floor) (x .b .floor) (gb .floor .own) j))) (x .b .row .kind)
+        (x .b .row) (gb .known)
 
     -- a's row is known to b now
     pub taken-known : known (full b ub (raised b (x .b .floor) (full a ua (x .a .floor)))) (x .a .row .kind) (x .a .row) ≡ true
@@ -117,7 +125,8 @@ module _ (w : ℕ) (a b : Clock) (la : a .device < w) (lb : b .device < w) (apar
       low j h = omega (arith, least-most (left k) (y .a) j, ga .0 .narrow j h, greatest-narrow w a (left k) (greatest ua (y .a)) (ga .1) j h)
 
       go : (t : Bool) → Good w b (walk w a b k (greatest ua (y .a)) (greatest ub (y .b))) (greatest ub (y .b)) → Good w b (walk w a b r ua ub) ub
-          → Good w b (cond t (folder (raised b (y .b) (fullLeast a ua (y .a) (left k))) (right k) (walk w a b r ua ub)) (folder (y .b) (walk w a b k (greatest ua (y .a)) (greatest ub (y .b))) (walk w a b r ua ub))) ub
+          → Good w b (cond t (folder (raised b (y .b) (fullLeast a ua (y .a) (left k))) (right k) (walk w a b r ua ub))
+          (folder (y .b) (walk w a b k (greatest ua (y .a)) (greatest ub (y .b))) (walk w a b r ua ub))) ub
       go true gk gr = (
         raised-good ua (least (y .a) (left k)) (y .b) nu low (gb .0 .narrow),
         good-more w b (right k) (greatest ub (y .b)) (greatest ub (raised b (y .b) (fullLeast a ua (y .a) (left k))))

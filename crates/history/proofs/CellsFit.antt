@@ -2,7 +2,7 @@
 -- covers exactly those events of the sheet that are in the set. Cells that fit give one ruling, and they fit again when they
 -- are ruled, joined, or told of an own event.
 use Prim.{Unit, tt}
-use Prim.Native.Nat.{ℕ, suc, _≤_, max}
+use Prim.Native.Nat.{ℕ, suc, _≤_, max, _<_}
 use mathlib.Core.Path.{_≡_, refl, sym, ap, ap₂, _∙_}
 use mathlib.Core.Bool.{Bool, true, false, _&&_, _||_, cond}
 use native.Mathlib.Omega.{arith}
@@ -14,8 +14,9 @@ use Rattle.paper.specs.declared.Stamp.{Stamp}
 use Rattle.paper.specs.Columns.{Vec, covers}
 use Rattle.paper.specs.Rules.{Kind, never, live, removed, Row, Heard, news, rule, Cell, ruling}
 use Rattle.paper.specs.Acts.{own}
-use Rattle.laws.proofs.Bools.{and-both}
-use Rattle.history.specs.Knowledge.{vectors, sets, same, ruled, passed}
+use Rattle.laws.proofs.Bools.{and-both, not-so}
+use Rattle.history.specs.Knowledge.{sets, same, ruled, passed}
+use Rattle.history.specs.Vectors.{vectors}
 
 abbrev pub Set : Type 0
 Set = Stamp → Bool
@@ -107,11 +108,6 @@ or-cases : {X : Type 0} (p q : Bool) → (p ≡ true → X) → (q ≡ true → 
 or-cases true q f g e = f refl
 or-cases false q f g e = g e
 
--- what is not true is false
-pub not-so : (p : Bool) → (p ≡ true → ⊥) → p ≡ false
-not-so true f = absurd (f refl)
-not-so false f = refl
-
 module _ {count : ℕ → ℕ} {log : Set} {a b : ℕ} {va vb : Cell Vec} {ha hb : Cell Set} (fa : Fits count log a va ha) (fb : Fits count log b vb hb) where
   -- what both know, with a row whose stamp and birth are in the joined set
   pub join-fits : (rv rh : Row) → rv ≡ rh
@@ -194,6 +190,10 @@ module _ (count : ℕ → ℕ) (d : ℕ) where
 
   up-at : (z : ℕ) → z ≡ d → up z ≡ suc (count d)
   up-at z e = rw (eq-eqb z d e) (ap (λ y. suc (count y)) e)
+
+  -- an event of a log after the next one has a count of at least 1, as those of the log before have
+  pub made-named : (log : Set) (here : Bool) (e : Stamp) → (log e ≡ true → 0 < e .count) → sets .made here fresh log e ≡ true → 0 < e .count
+  made-named log here e h = made-cases here fresh log e (λ k q p₀ p₁. omega (arith, p₁)) h
 
   module _ (log : Set) (past : (e : Stamp) → log e ≡ true → e .count ≤ count (e .device)) (here : Bool) where
     abbrev pub logged : Set

@@ -92,7 +92,8 @@ module _ (count : Vec) where
         low j = omega (arith, least-most (left k) (y .a) j, s .0 j, greatest-made (left k) (greatest ua (y .a)) (s .1) j)
 
         go : (c : Bool) → Early (walk w a b k (greatest ua (y .a)) (greatest ub (y .b))) (greatest ub (y .b)) → Early (walk w a b r ua ub) ub
-            → Early (cond c (folder (raised b (y .b) (fullLeast a ua (y .a) (left k))) (right k) (walk w a b r ua ub)) (folder (y .b) (walk w a b k (greatest ua (y .a)) (greatest ub (y .b))) (walk w a b r ua ub))) ub
+            → Early (cond c (folder (raised b (y .b) (fullLeast a ua (y .a) (left k))) (right k) (walk w a b r ua ub))
+            (folder (y .b) (walk w a b k (greatest ua (y .a)) (greatest ub (y .b))) (walk w a b r ua ub))) ub
         go true p q = (
           raised-made (y .b) (fullLeast a ua (y .a) (left k)) (t .0) (full-made ua (least (y .a) (left k)) u low),
           early-any (right k) (greatest ub (y .b)) (greatest ub (raised b (y .b) (fullLeast a ua (y .a) (left k)))) (t .1),

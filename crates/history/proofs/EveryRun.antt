@@ -19,9 +19,11 @@ use Rattle.paper.specs.Calls.{Changed, Passed, eventNamed, choiceNamed}
 use Rattle.paper.specs.Widths.{Width, widthOf, tableAny, newAny, eventAny, passAny, settleAny, widenOf}
 use Rattle.laws.proofs.Widths.{width-either, widened}
 use Rattle.laws.proofs.Forests.{shape, mapped-mapped}
-use Rattle.history.specs.Knowledge.{vectors, sets}
+use Rattle.history.specs.Knowledge.{sets}
+use Rattle.history.specs.Vectors.{vectors}
 use Rattle.history.specs.World.{noRow, begin, eventful, passing, settling}
-use Rattle.history.specs.Run.{Step, event, pass, settle, widen, State, replaced, within, devices, begun, after, run, Makes}
+use Rattle.paper.specs.Devices.{devices}
+use Rattle.history.specs.Run.{Step, event, pass, settle, widen, State, replaced, within, begun, after, run, Makes}
 use Rattle.history.specs.Look.{cellAt}
 use Rattle.history.proofs.Cells.{cellIn, cell-table}
 use Rattle.history.proofs.WorldsAgree.{begin-inv}
@@ -44,7 +46,8 @@ holds-cond true o q c p r = p
 holds-cond false o q c p r = r
 
 -- nothing is known of a tree with nothing in it
-bare-holds : {X Y : Type 0} (d : ℕ) (f : Forest X Y) (u : Vec) → ((j : ℕ) → u j ≡ 0) → (y : ℕ) → Holds (cellIn (record { device = d; counter = 0 }) (bare f) u y) (record { row = noRow; known = zeros })
+bare-holds : {X Y : Type 0} (d : ℕ) (f : Forest X Y) (u : Vec) → ((j : ℕ) → u j ≡ 0) → (y : ℕ)
+    → Holds (cellIn (record { device = d; counter = 0 }) (bare f) u y) (record { row = noRow; known = zeros })
 unfolding cellIn mapped
 bare-holds d end u h y = tt
 bare-holds d (sheet x r) u h zero = ap (λ v. record { row = noRow; known = v }) (fun-ext (λ j. go j (eqb j d)))
@@ -55,7 +58,8 @@ bare-holds d (sheet x r) u h zero = ap (λ v. record { row = noRow; known = v })
 bare-holds d (sheet x r) u h (suc y) = bare-holds d r u h y
 bare-holds d (folder z k r) u h zero = tt
 bare-holds d (folder z k r) u h (suc y) =
-    holds-cond (ltb y (size (bare k))) (cellIn (record { device = d; counter = 0 }) (bare k) (greatest u zeros) y) (cellIn (record { device = d; counter = 0 }) (bare r) u (y - size (bare k))) (record { row = noRow; known = zeros })
+    holds-cond (ltb y (size (bare k))) (cellIn (record { device = d; counter = 0 }) (bare k) (greatest u zeros) y) (cellIn (record { device = d; counter = 0 }) (bare r) u (y - size (bare k)))
+    (record { row = noRow; known = zeros })
     (bare-holds d k (greatest u zeros) (λ j. omega (arith, h j)) y) (bare-holds d r u h (y - size (bare k)))
 
 module _ (columns : ℕ → ℕ) (plan : List ℕ) (lent : ℕ → List ℕ) (made : Makes columns plan lent) where
@@ -63,7 +67,7 @@ module _ (columns : ℕ → ℕ) (plan : List ℕ) (lent : ℕ → List ℕ) (ma
   accepted d l = new-at (columns d) d plan (lent d) (made d l)
 
   -- device 15 has sixteen columns, so the plan's rows stand with sixteen
-  pub rows-planned : planOf (planRows 16 plan) ≡ plan
+  pub rows-planned : planOf (planRows devices plan) ≡ plan
   rows-planned =
       let x = accepted 15 (omega arith) in
       subst (λ w. planOf (planRows w plan) ≡ plan) (sixteen (columns 15) (x .width) (x .device)) (x .planned)
@@ -73,8 +77,8 @@ module _ (columns : ℕ → ℕ) (plan : List ℕ) (lent : ℕ → List ℕ) (ma
       sixteen w (inr e) l = e
 
   -- of one shape with eight columns and with sixteen
-  rows-shape : (d : ℕ) → d < devices → shape (planRows (columns d) plan) ≡ shape (planRows 16 plan)
-  rows-shape d l = plan-shape (planRows (columns d) plan) (planRows 16 plan) (accepted d l .planned ∙ sym rows-planned)
+  rows-shape : (d : ℕ) → d < devices → shape (planRows (columns d) plan) ≡ shape (planRows devices plan)
+  rows-shape d l = plan-shape (planRows (columns d) plan) (planRows devices plan) (accepted d l .planned ∙ sym rows-planned)
 
   abbrev words : ℕ → List ℕ
   words d = newAny (columns d) d plan (lent d) .table
@@ -95,7 +99,7 @@ module _ (columns : ℕ → ℕ) (plan : List ℕ) (lent : ℕ → List ℕ) (ma
   )
 
   -- new tables have nothing in them, and the history no event
-  pub begun-kept : Kept (shape (planRows 16 plan)) (begun columns plan lent)
+  pub begun-kept : Kept (shape (planRows devices plan)) (begun columns plan lent)
   unfolding begun begin
   begun-kept = record {
     sound = λ d l. rw (lt-ltb d devices l) (accepted d l .check);
@@ -134,12 +138,14 @@ module _ (p : Forest (Unit {0}) (Unit {0})) where
       unless-kept (passAny (s .tables a) (s .tables b) row list .number) s _ k
       (λ q.
       let acc = pass-accepted (s .tables a) (s .tables b) row list q in
-      subst (λ (o : Passed). Kept p (record { tables = replaced (s .tables) b (o .target); past = passing sets (s .past) a b (within row (length list)) })) (sym (acc .done)) (pass-kept p s k (widthOf (s .tables b)) (width-either (s .tables b)) a b row list _ acc))
+      subst (λ (o : Passed). Kept p (record { tables = replaced (s .tables) b (o .target); past = passing sets (s .past) a b (within row (length list)) })) (sym (acc .done))
+      (pass-kept p s k (widthOf (s .tables b)) (width-either (s .tables b)) a b row list _ acc))
   after-kept s (settle a b row c m) k =
       unless-kept (settleAny (s .tables a) (s .tables b) row c m .number) s _ k
       (λ q.
       let acc = settle-accepted (s .tables a) (s .tables b) row c m q in
-      subst (λ (o : Changed). Kept p (record { tables = replaced (s .tables) b (o .table); past = settling sets (s .past) a b row (choiceNamed c) m })) (sym (acc .done)) (settle-kept p s k (widthOf (s .tables b)) (width-either (s .tables b)) a b row c m _ acc))
+      subst (λ (o : Changed). Kept p (record { tables = replaced (s .tables) b (o .table); past = settling sets (s .past) a b row (choiceNamed c) m })) (sym (acc .done))
+      (settle-kept p s k (widthOf (s .tables b)) (width-either (s .tables b)) a b row c m _ acc))
   after-kept s (widen d wider) k =
       unless-kept (widenOf (s .tables d) wider .number) s _ k
       (λ q. subst (λ (o : Changed). Kept p (record { tables = replaced (s .tables) d (o .table); past = s .past })) (sym (widened (s .tables d) wider q .done)) (widen-kept p s k d wider q))

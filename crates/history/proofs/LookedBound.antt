@@ -41,7 +41,8 @@ module _ (w : ℕ) (a b : Clock) where
     where
       first : (j : ℕ) → j < size k
           → unheard (cellIn a (left k) (greatest ua (y .a)) j) (cellIn b (right k) (greatest ub (y .b)) j)
-          ≡ unheard (cond (ltb j (size (left k))) (cellIn a (left k) (greatest ua (y .a)) j) (cellIn a (left r) ua (j - size (left k)))) (cond (ltb j (size (right k))) (cellIn b (right k) (greatest ub (y .b)) j) (cellIn b (right r) ub (j - size (right k))))
+          ≡ unheard (cond (ltb j (size (left k))) (cellIn a (left k) (greatest ua (y .a)) j) (cellIn a (left r) ua (j - size (left k))))
+          (cond (ltb j (size (right k))) (cellIn b (right k) (greatest ub (y .b)) j) (cellIn b (right r) ub (j - size (right k))))
       first j h = rw (left-size k, right-size k, lt-ltb j (size k) h)
 
       rest : (j : ℕ) → j < size r
@@ -84,8 +85,10 @@ module _ (w : ℕ) (a b : Clock) where
       omega arith
   newest-heard (folder y k r) ua ub M h e j l =
       let s = newest-heard k (greatest ua (y .a)) (greatest ub (y .b)) M
-      (λ i m. le-trans (full-more b (greatest ub (y .b)) ub (greatestOf (right k)) (greatest (greatest (y .b) (greatestOf (right k))) (greatestOf (right r))) i (omega arith)) (h i m)) (omega arith) j l in
-      let t = newest-heard r ua ub M (λ i m. le-trans (full-more b ub ub (greatestOf (right r)) (greatest (greatest (y .b) (greatestOf (right k))) (greatestOf (right r))) i (omega arith)) (h i m)) (omega arith) j l in
+      (λ i m. le-trans (full-more b (greatest ub (y .b)) ub (greatestOf (right k)) (greatest (greatest (y .b) (greatestOf (right k))) (greatestOf (right r))) i (omega arith)) (h i m))
+      (omega arith) j l in
+      let t = newest-heard r ua ub M (λ i m. le-trans (full-more b ub ub (greatestOf (right r)) (greatest (greatest (y .b) (greatestOf (right k))) (greatestOf (right r))) i (omega arith)) (h i m))
+      (omega arith) j l in
       omega arith
 
   -- siblings that all know L on A's side and M on B's, in w columns
@@ -209,9 +212,17 @@ module _ (w : ℕ) (a b : Clock) where
     where
       even : Even (folder y k end) (fullLeast a ua (y .a) (left k)) (fullLeast b ub (y .b) (right k)) ua ub
       even = unfold greatestOf smallestOf mapped in (record {
-        mostA = λ j l. omega (arith, full-more a ua ua (greatest (most (y .a) (left k)) zeros) (most (y .a) (left k)) j (omega arith), alike-at w (fullLeast a ua (y .a) (left k)) (fullMost a ua (y .a) (left k)) la j l);
+        mostA = λ j l. omega (
+          arith,
+          full-more a ua ua (greatest (most (y .a) (left k)) zeros) (most (y .a) (left k)) j (omega arith),
+          alike-at w (fullLeast a ua (y .a) (left k)) (fullMost a ua (y .a) (left k)) la j l,
+        );
         leastA = λ j. le-refl _;
-        mostB = λ j l. omega (arith, full-more b ub ub (greatest (most (y .b) (right k)) zeros) (most (y .b) (right k)) j (omega arith), alike-at w (fullLeast b ub (y .b) (right k)) (fullMost b ub (y .b) (right k)) lb j l);
+        mostB = λ j l. omega (
+          arith,
+          full-more b ub ub (greatest (most (y .b) (right k)) zeros) (most (y .b) (right k)) j (omega arith),
+          alike-at w (fullLeast b ub (y .b) (right k)) (fullMost b ub (y .b) (right k)) lb j l,
+        );
         leastB = λ j. le-refl _;
       })
   row-bound (folder y k (sheet z r)) W ua ub h la lb hw = absurd (omega arith)

@@ -1,8 +1,10 @@
 -- The paper's marked sheets A to K, told by the history: runs of calls on words, in which every call is accepted, and what
 -- the history's sets then say of each sheet, by computation. So the history that demand 3 speaks of is the paper's.
+use Prim.{Unit, tt}
 use Prim.Native.Nat.{ℕ, _*_}
 use mathlib.Core.Bool.{cond}
 use lib.Dec.{ltb}
+use Rattle.paper.specs.Devices.{devices}
 use Rattle.paper.specs.Words.{wide}
 use mathlib.Core.Path.{_≡_, refl}
 use mathlib.Core.List.{List, [], _∷_, _++_, map}
@@ -29,7 +31,7 @@ lent : ℕ → List ℕ
 lent d = replicate (6 * wide (columns d)) 9
 
 wider : List ℕ
-wider = replicate 432 9
+wider = replicate (6 * wide devices) 9
 
 -- a pass from a to b at the root, and one at row 1; lists of the right length
 whole : ℕ → ℕ → Step
@@ -71,7 +73,7 @@ told c =
 meant : Case → Told
 meant c = record { refusal = 0; numbers = c .sheets }
 
--- the calls before B; before C; before D; before K's second pass
+-- the calls before B; before C, which comes after B; before D; before K's first and second pass
 first-pass : List Step
 first-pass = event 0 2 1 700 ∷ whole 0 1 ∷ []
 
@@ -81,8 +83,11 @@ changed = first-pass ++ (whole 0 1 ∷ event 0 2 2 701 ∷ event 1 2 2 702 ∷ [
 settled : List Step
 settled = changed ++ (whole 0 1 ∷ settle 0 1 2 2 0 ∷ [])
 
+both-create : List Step
+both-create = event 0 2 1 1 ∷ event 1 2 1 2 ∷ []
+
 two-born : List Step
-two-born = event 0 2 1 1 ∷ event 1 2 1 2 ∷ whole 1 2 ∷ []
+two-born = both-create ++ (whole 1 2 ∷ [])
 
 -- C's conflict on widened tables, settled there by a new row, which device 9 then takes and changes
 widened : List Step
@@ -102,6 +107,7 @@ cases =
     ∷ record { before = event 0 2 1 1 ∷ event 1 2 1 2 ∷ event 1 2 3 0 ∷ []; source = 1; target = 0; sheets = 0 ∷ 0 ∷ 0 ∷ [] }
     ∷ record { before = first-pass ++ (event 0 2 2 1 ∷ event 1 2 3 0 ∷ []); source = 0; target = 1; sheets = 3 ∷ 0 ∷ 0 ∷ [] }
     ∷ record { before = first-pass ++ (event 0 2 3 0 ∷ []); source = 0; target = 1; sheets = 2 ∷ 0 ∷ 0 ∷ [] }
+    ∷ record { before = both-create; source = 1; target = 2; sheets = 1 ∷ 0 ∷ 0 ∷ [] }
     ∷ record { before = two-born; source = 0; target = 1; sheets = 3 ∷ 0 ∷ 0 ∷ [] }
     ∷ record { before = two-born ++ (whole 0 1 ∷ settle 0 1 2 2 0 ∷ []); source = 1; target = 2; sheets = 0 ∷ 0 ∷ 0 ∷ [] }
     ∷ record { before = two-born ++ (whole 0 1 ∷ settle 0 1 2 2 0 ∷ whole 1 2 ∷ []); source = 0; target = 2; sheets = 0 ∷ 0 ∷ 0 ∷ [] }
@@ -117,8 +123,13 @@ cases =
     ∷ record { before = widened; source = 0; target = 9; sheets = 0 ∷ 0 ∷ 0 ∷ [] }
     ∷ []
 
+-- the history's definitions, opened at once
+unfoldable happened : Unit {0}
+unfolding Knowledge.ruled Knowledge.passed World.begin World.next World.tick World.put World.eventful World.passing World.settling Run.within Run.begun Run.after Run.run
+happened = tt
+
 -- A to K; then a change after A, C's conflict told again, C's conflict settled by theirs and by a new row, and a removal that
 -- goes by way of a device that never had the sheet; and tables that are widened on the way
 marked : map told cases ≡ map meant cases
-unfolding plan columns lent wider whole part number refused told meant first-pass changed settled two-born widened cases computed Knowledge.ruled Knowledge.passed World.begin World.next World.tick World.put World.eventful World.passing World.settling Run.within Run.begun Run.after Run.run
+unfolding plan columns lent wider whole part number refused told meant first-pass changed settled both-create two-born widened cases computed happened
 marked = refl

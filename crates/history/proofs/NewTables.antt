@@ -12,6 +12,7 @@ use lib.ListN.{length, getD, take, drop, replicate, length-append}
 use lib.Seq.{take-at, drop-at}
 use borrow.Author.Tests.{ltb-true, leb-true, leb-false, lt-ltb, le-leb, eq-eqb, ne-eqb}
 use Rattle.paper.specs.declared.Clock.{Clock}
+use Rattle.paper.specs.Devices.{mostRows, mostLevels}
 use Rattle.paper.specs.Columns.{Vec, zeros, greatest, columns}
 use Rattle.paper.specs.Tree.{Forest, end, sheet, folder, mapped, size, subtree, sheetHere, Sheet, Tree, newest, stampVec, greatestOf, least, most}
 use Rattle.paper.specs.Order.{kindWord, sizeWord, ordered, Raw, forestOf, wordsOf}
@@ -231,25 +232,25 @@ planned-none w [] e = refl
 planned-none w (zero ∷ p) e = cc
 planned-none w (suc n ∷ p) e = cc
 
-module _ (w d : ℕ) (plan : List ℕ) (dw : d < w) (some : 0 < length plan) (few : length plan ≤ 256) (fits : orderFits w (length plan) (planned w plan) ≡ true) where
+module _ (w d : ℕ) (plan : List ℕ) (dw : d < w) (some : 0 < length plan) (few : length plan ≤ mostRows) (fits : orderFits w (length plan) (planned w plan) ≡ true) where
   abbrev words : List ℕ
   words = headWords w (record { device = d; counter = 0 }) (length plan) ++ planned w plan
 
   abbrev raw : Raw
   raw = forestOf (wide w) (planned w plan)
 
-  in-order : ordered (wide w) 16 (planned w plan) ≡ true
+  in-order : ordered (wide w) mostLevels (planned w plan) ≡ true
   unfolding orderFits
   in-order = and-both (eqb (sizeWord (planned w plan)) (length plan)) _ (and-both (eqb (kindWord (planned w plan)) 3) _ fits .1) .1
 
   raw-words : wordsOf raw ≡ planned w plan
-  raw-words = ordered-words (wide w) (omega arith) 16 (planned w plan) in-order
+  raw-words = ordered-words (wide w) (omega arith) mostLevels (planned w plan) in-order
 
-  raw-formed : Formed (wide w) 16 raw
-  raw-formed = ordered-formed (wide w) (omega arith) 16 (planned w plan) in-order
+  raw-formed : Formed (wide w) mostLevels raw
+  raw-formed = ordered-formed (wide w) (omega arith) mostLevels (planned w plan) in-order
 
   front : Planned w raw plan []
-  front = plan-front w 16 raw plan [] raw-formed (append-nil (wordsOf raw) ∙ raw-words)
+  front = plan-front w mostLevels raw plan [] raw-formed (append-nil (wordsOf raw) ∙ raw-words)
 
   -- the rows that a plan gives have that plan
   pub raw-plan : planOf raw ≡ plan
@@ -264,7 +265,7 @@ module _ (w d : ℕ) (plan : List ℕ) (dw : d < w) (some : 0 < length plan) (fe
   words-long : length words ≡ length plan * wide w + wide w
   words-long =
       length-append (headWords w (record { device = d; counter = 0 }) (length plan)) (planned w plan)
-      ∙ ap₂ _+_ (head-long w (record { device = d; counter = 0 }) (length plan)) (sym (ap length raw-words) ∙ formed-length (wide w) 16 raw raw-formed ∙ ap (λ n. n * wide w) raw-size)
+      ∙ ap₂ _+_ (head-long w (record { device = d; counter = 0 }) (length plan)) (sym (ap length raw-words) ∙ formed-length (wide w) mostLevels raw raw-formed ∙ ap (λ n. n * wide w) raw-size)
       ∙ omega arith
 
   head-passes : headFits w words ≡ true
@@ -277,7 +278,8 @@ module _ (w d : ℕ) (plan : List ℕ) (dw : d < w) (some : 0 < length plan) (fe
   unfolding tableOf headWords
   new-read =
       ap (λ t. record { clock = record { device = d; counter = 0 }; tree = t })
-      (ap (λ l. treeFrom w (forestOf (wide w) l)) rows-at ∙ ap (treeFrom w) (sym (front .nothing)) ∙ rows-read w (bare raw) (good-thin w (record { device = d; counter = 0 }) (bare raw) zeros (bare-good w (record { device = d; counter = 0 }) raw zeros)))
+      (ap (λ l. treeFrom w (forestOf (wide w) l)) rows-at ∙ ap (treeFrom w) (sym (front .nothing))
+      ∙ rows-read w (bare raw) (good-thin w (record { device = d; counter = 0 }) (bare raw) zeros (bare-good w (record { device = d; counter = 0 }) raw zeros)))
 
   rows-fit : rowsFit w (tableOf w words .clock) (forestOf (wide w) (drop (wide w) words)) zeros ≡ true
   rows-fit =
@@ -311,7 +313,7 @@ new-accepted w d plan table e = record {
     r : newRefused w d plan table ≡ 0
     r = sym (new-number w d plan table) ∙ e
 
-    facts : (leb w d ≡ false) × ((ltb 0 (length plan) && (leb (length plan) 256 && orderFits w (length plan) (planned w plan))) ≡ true)
+    facts : (leb w d ≡ false) × ((ltb 0 (length plan) && (leb (length plan) mostRows && orderFits w (length plan) (planned w plan))) ≡ true)
     facts =
         let x = first-both _ _ r in
         let y = first-both _ _ (x .1) in
@@ -320,7 +322,7 @@ new-accepted w d plan table e = record {
     dw : d < w
     dw = leb-false w d (facts .0)
 
-    s : (0 < length plan) × (length plan ≤ 256) × (orderFits w (length plan) (planned w plan) ≡ true)
+    s : (0 < length plan) × (length plan ≤ mostRows) × (orderFits w (length plan) (planned w plan) ≡ true)
     s =
         let x = and-both _ _ (facts .1) in
         let y = and-both _ _ (x .1) in

@@ -19,7 +19,8 @@ use Rattle.paper.specs.Calls.{isFolder, twoRefused, passRefused, Passed}
 use Rattle.laws.proofs.Calls.{pass-number}
 use Rattle.laws.proofs.Refusals.{first-next, when-false, unless-so}
 use Rattle.laws.proofs.Forests.{shape, shape-size, shape-shaped}
-use Rattle.history.specs.Run.{State, Makes, devices}
+use Rattle.paper.specs.Devices.{devices}
+use Rattle.history.specs.Run.{State, Makes}
 use Rattle.history.specs.Look.{cellAt}
 use Rattle.history.proofs.SheetsOfForests.{shape-folder}
 use Rattle.history.proofs.CountersAhead.{early-later}
@@ -44,16 +45,17 @@ unfolding passRefused
 pass-two w s t row list = refl
 
 -- THE PLAN's zeros are the sheets of every table of a run
-module _ (columns : ℕ → ℕ) (plan : List ℕ) (lent : ℕ → List ℕ) (makes : Makes columns plan lent) (s : State) (k : Kept (shape (planRows 16 plan)) s) where
-  sheet-there : (d i : ℕ) → d < devices → getD plan i 1 ≡ 0 → isFolder (cellAt (tableAny (s .tables d)) i) ≡ false
+module _ (columns : ℕ → ℕ) (plan : List ℕ) (lent : ℕ → List ℕ) (makes : Makes columns plan lent) (s : State) (k : Kept (shape (planRows devices plan)) s) where
+  pub sheet-there : (d i : ℕ) → d < devices → getD plan i 1 ≡ 0 → isFolder (cellAt (tableAny (s .tables d)) i) ≡ false
   sheet-there d i l z =
-      cell-folder (tableAny (s .tables d)) i ∙ ap (λ p. isFolder (sheetHere (subtree p i))) (k .shapes d l) ∙ shape-folder (planRows 16 plan) i
-      ∙ plan-sheets (planRows 16 plan) i ∙ ap (λ p. not (eqb (getD p i 1) 0)) (rows-planned columns plan lent makes) ∙ rw z
+      cell-folder (tableAny (s .tables d)) i ∙ ap (λ p. isFolder (sheetHere (subtree p i))) (k .shapes d l) ∙ shape-folder (planRows devices plan) i
+      ∙ plan-sheets (planRows devices plan) i ∙ ap (λ p. not (eqb (getD p i 1) 0)) (rows-planned columns plan lent makes) ∙ rw z
 
-  kept-size : (d : ℕ) → d < devices → size (tableAny (s .tables d) .tree) ≡ length plan
+  -- every table has as many rows as the plan
+  pub kept-size : (d : ℕ) → d < devices → size (tableAny (s .tables d) .tree) ≡ length plan
   kept-size d l =
-      sym (shape-size (tableAny (s .tables d) .tree)) ∙ ap size (k .shapes d l) ∙ shape-size (planRows 16 plan)
-      ∙ sym (plan-length (planRows 16 plan)) ∙ ap length (rows-planned columns plan lent makes)
+      sym (shape-size (tableAny (s .tables d) .tree)) ∙ ap size (k .shapes d l) ∙ shape-size (planRows devices plan)
+      ∙ sym (plan-length (planRows devices plan)) ∙ ap length (rows-planned columns plan lent makes)
 
   first-one : (n : ℕ) → first (n ∷ []) ≡ n
   unfolding first
@@ -87,8 +89,10 @@ module _ (columns : ℕ → ℕ) (plan : List ℕ) (lent : ℕ → List ℕ) (ma
         rest =
             first-next _ _ (unless-so _ 4 (shape-shaped _ _ (k .shapes a la ∙ sym (k .shapes b lb))))
             ∙ first-next _ _ (when-false _ 5 (ne-eqb _ _ (λ e. ne (sym (k .device a la) ∙ e ∙ k .device b lb))))
-            ∙ first-next _ _ (when-false _ 6 (early-later _ (tableAny (s .tables b) .clock) (ap (λ x. tableAny (s .tables x) .clock .counter) (k .device b lb)) (tableAny (s .tables a) .tree) (k .early a la)))
-            ∙ first-next _ _ (when-false _ 7 (early-later _ (tableAny (s .tables a) .clock) (ap (λ x. tableAny (s .tables x) .clock .counter) (k .device a la)) (tableAny (s .tables b) .tree) (k .early b lb)))
+            ∙ first-next _ _ (when-false _ 6 (early-later _ (tableAny (s .tables b) .clock) (ap (λ x. tableAny (s .tables x) .clock .counter) (k .device b lb)) (tableAny (s .tables a) .tree)
+            (k .early a la)))
+            ∙ first-next _ _ (when-false _ 7 (early-later _ (tableAny (s .tables a) .clock) (ap (λ x. tableAny (s .tables x) .clock .counter) (k .device a la)) (tableAny (s .tables b) .tree)
+            (k .early b lb)))
             ∙ first-one _ ∙ ap (λ n. when (leb n row) 8) (kept-size b lb)
 
     -- so a pass between tables of one width is refused by 8 or 9 alone
@@ -116,8 +120,8 @@ module _ (columns : ℕ → ℕ) (plan : List ℕ) (lent : ℕ → List ℕ) (ma
       let ta = tableAny (s .tables a) in
       let tb = tableAny (s .tables b) in
       let w = widthOf (s .tables b) in
-      let la = there (shape (planRows 16 plan)) s k w a (acc .two .source) in
-      let lb = there (shape (planRows 16 plan)) s k w b (acc .two .target) in
+      let la = there (shape (planRows devices plan)) s k w a (acc .two .source) in
+      let lb = there (shape (planRows devices plan)) s k w b (acc .two .target) in
       ap (λ (o : Passed). getD (o .answers) j 0) (acc .done)
       ∙ said-held _ (cellAt ta (row + j)) (cellAt tb (row + j)) (k .flat .cell a (row + j)) (k .flat .cell b (row + j))
       (sheet-there a (row + j) la z) (sheet-there b (row + j) lb z) (k .holds a (row + j)) (k .holds b (row + j))

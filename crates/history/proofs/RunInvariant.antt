@@ -23,7 +23,8 @@ use Rattle.laws.proofs.Widths.{any-passes, any-read}
 use Rattle.laws.proofs.Forests.{shape}
 use Rattle.history.specs.Knowledge.{Sort}
 use Rattle.history.specs.World.{World, next, tick, put}
-use Rattle.history.specs.Run.{State, replaced, devices}
+use Rattle.paper.specs.Devices.{devices}
+use Rattle.history.specs.Run.{State, replaced}
 use Rattle.history.specs.Look.{cellAt, both}
 use Rattle.history.proofs.Bridge.{Said}
 use Rattle.paper.specs.Calls.{isFolder}
@@ -158,7 +159,8 @@ module _ (p : Forest (Unit {0}) (Unit {0})) (s : State) (k : Kept p s) where
         shapes′ x l false = k .shapes x l
 
         more : (y : ℕ) (e : Bool) → eqb y b ≡ e → counter y ≤ tableAny (cond e (written w t) (s .tables y)) .clock .counter
-        more y true e = let z : tableAny (written w t) .clock .counter ≡ t .clock .counter = ap (λ (z : Table). z .clock .counter) (any-read w wide t good) in omega (arith, grows, ap counter (eqb-true y b e))
+        more y true e =
+            let z : tableAny (written w t) .clock .counter ≡ t .clock .counter = ap (λ (z : Table). z .clock .counter) (any-read w wide t good) in omega (arith, grows, ap counter (eqb-true y b e))
         more y false e = le-refl _
 
         early′ : (x : ℕ) → x < devices → (e : Bool) → Early counter (cond e t (T x) .tree) zeros
@@ -178,7 +180,8 @@ module _ (p : Forest (Unit {0}) (Unit {0})) (s : State) (k : Kept p s) where
   held d y c e = subst (λ o. Holds o (k .flat .cell d y)) e (k .holds d y)
 
 -- a number said of two sheets whose cells a world has
-pub said-held : (n : ℕ) (o p : Option (Cell Vec)) (c d : Cell Vec) → isFolder o ≡ false → isFolder p ≡ false → Holds o c → Holds p d → Said n (both (ruling covers) o p) → n ≡ numberOf (ruling covers c d)
+pub said-held : (n : ℕ) (o p : Option (Cell Vec)) (c d : Cell Vec) → isFolder o ≡ false → isFolder p ≡ false → Holds o c → Holds p d → Said n (both (ruling covers) o p)
+    → n ≡ numberOf (ruling covers c d)
 unfolding both
 said-held n none p c d e f h k s = absurd (true≢false e)
 said-held n (some x) none c d e f h k s = absurd (true≢false f)

@@ -22,14 +22,17 @@ use Rattle.paper.specs.Widths.{Width, widthOf, tableAny, widenOf}
 use Rattle.laws.proofs.Widths.{width-either, good-wider, Widened, widened}
 use Rattle.paper.specs.Good.{GoodTable}
 use Rattle.paper.specs.Calls.{Changed, Passed, newStamp, ticked, eventNamed, eventSheet, eventDone, pairAt, passDone, choiceNamed, settleSheet, settleDone}
-use Rattle.history.specs.Knowledge.{vectors, sets, passed}
+use Rattle.history.specs.Knowledge.{sets, passed}
+use Rattle.history.specs.Vectors.{vectors}
 use Rattle.history.specs.World.{World, next, tick, put, eventful, passing, settling}
-use Rattle.history.specs.Run.{State, replaced, within, devices}
+use Rattle.paper.specs.Devices.{devices}
+use Rattle.history.specs.Run.{State, replaced, within}
 use Rattle.history.specs.Look.{cellAt, both}
 use Rattle.history.proofs.CellsFit.{rulings}
 use Rattle.history.proofs.WorldsAgree.{event-inv, pass-inv, settle-inv}
 use Rattle.history.proofs.CountersAhead.{Early, early-any, early-subtree, early-graft, early-above, full-made, raised-made, walk-early}
-use Rattle.history.proofs.CallsAccepted.{Two-good, pair-left, pair-right, Pass-accepted, pass-shape, passed-good, Event-accepted, event-tree, event-shape, event-table-good, Settle-accepted, alone-left, alone-right, settle-tree, settle-shape, settle-table-good}
+use Rattle.history.proofs.CallsAccepted.{Two-good, pair-left, pair-right, Pass-accepted, pass-shape, passed-good, Event-accepted, event-tree}
+use Rattle.history.proofs.CallsAccepted.{event-shape, event-table-good, Settle-accepted, alone-left, alone-right, settle-tree, settle-shape, settle-table-good}
 use Rattle.history.proofs.CallEffects.{reset, pass-inside, pass-before, pass-after, event-here, event-there, one-before, counted, settle-here, settle-there}
 use Rattle.history.proofs.RunInvariant.{put-there, put-here, put-away, tick-there, tick-here, Holds, holds-map, holds-both, Kept, there, changed, held}
 
@@ -40,6 +43,11 @@ module _ (p : Forest (Unit {0}) (Unit {0})) (s : State) (k : Kept p s) where
 
   abbrev counter : Vec
   counter x = tableAny (s .tables x) .clock .counter
+
+  -- a device's next event has one name in the world and in its table
+  next-stamp : (d : ℕ) → d < devices → next vectors (k .flat) d ≡ newStamp (T d .clock)
+  unfolding next
+  next-stamp d l = ap₂ (λ x n. record { device = x; count = suc n }) (sym (k .device d l)) (k .counts d)
 
   -- A PASS
   module _ (w : ℕ) (wide : Width w) (a b row : ℕ) (list : List ℕ) (out : Passed) (acc : Pass-accepted w (T a) (T b) row list out) where
@@ -58,26 +66,31 @@ module _ (p : Forest (Unit {0}) (Unit {0})) (s : State) (k : Kept p s) where
         early-graft counter (T b .tree) row _ (k .early b bw)
         (early-any counter (walk w (T a .clock) (T b .clock) (pairAt (T a) (T b) row) (above (T a .tree) row) (above (T b .tree) row)) (above (T b .tree) row) zeros
         (walk-early counter (T a .clock) (T b .clock) (omega (arith, ap counter (k .device a aw))) w (pairAt (T a) (T b) row) (above (T a .tree) row) (above (T b .tree) row)
-        (subst (λ t. Early counter t (above (T a .tree) row)) (sym (pair-left w (T a) (T b) row g)) (early-any counter (subtree (T a .tree) row) zeros (above (T a .tree) row) (early-subtree counter (T a .tree) row (k .early a aw))))
-        (subst (λ t. Early counter t (above (T b .tree) row)) (sym (pair-right w (T a) (T b) row g)) (early-any counter (subtree (T b .tree) row) zeros (above (T b .tree) row) (early-subtree counter (T b .tree) row (k .early b bw))))
+        (subst (λ t. Early counter t (above (T a .tree) row)) (sym (pair-left w (T a) (T b) row g))
+        (early-any counter (subtree (T a .tree) row) zeros (above (T a .tree) row) (early-subtree counter (T a .tree) row (k .early a aw))))
+        (subst (λ t. Early counter t (above (T b .tree) row)) (sym (pair-right w (T a) (T b) row g))
+        (early-any counter (subtree (T b .tree) row) zeros (above (T b .tree) row) (early-subtree counter (T b .tree) row (k .early b bw))))
         (early-above counter (T a .tree) row (k .early a aw))))
 
     pass-holds : (y : ℕ) → Holds (cellAt (passDone w (T a) (T b) row) y) (passing vectors (k .flat) a b (within row (length list)) .cell b y)
     unfolding passing within
     pass-holds y = go (leb row y) (ltb y (row + length list)) refl refl
       where
-        to : (t : Bool) → within row (length list) y ≡ t → put vectors (k .flat) b (within row (length list)) (λ y. passed vectors (k .flat .cell a y) (k .flat .cell b y)) .cell b y ≡ cond t (passed vectors (k .flat .cell a y) (k .flat .cell b y)) (k .flat .cell b y)
+        to : (t : Bool) → within row (length list) y ≡ t → put vectors (k .flat) b (within row (length list)) (λ y. passed vectors (k .flat .cell a y) (k .flat .cell b y)) .cell b y
+            ≡ cond t (passed vectors (k .flat .cell a y) (k .flat .cell b y)) (k .flat .cell b y)
         to true e = put-here vectors (k .flat) b (within row (length list)) _ y e
         to false e = put-away vectors (k .flat) b (within row (length list)) _ y e
 
-        go : (t u : Bool) → leb row y ≡ t → ltb y (row + length list) ≡ u → Holds (cellAt (passDone w (T a) (T b) row) y) (put vectors (k .flat) b (within row (length list)) (λ y. passed vectors (k .flat .cell a y) (k .flat .cell b y)) .cell b y)
+        go : (t u : Bool) → leb row y ≡ t → ltb y (row + length list) ≡ u
+            → Holds (cellAt (passDone w (T a) (T b) row) y) (put vectors (k .flat) b (within row (length list)) (λ y. passed vectors (k .flat .cell a y) (k .flat .cell b y)) .cell b y)
         go true true e f =
             let l : row ≤ y = leb-true row y e in
             let m : y < row + length list = ltb-true y (row + length list) f in
             let z : row + (y - row) ≡ y = omega arith in
             subst (Holds (cellAt (passDone w (T a) (T b) row) y)) (sym (to true (rw (e, f))))
             (subst (λ o. Holds o (passed vectors (k .flat .cell a y) (k .flat .cell b y)))
-            (sym (subst (λ n. cellAt (passDone w (T a) (T b) row) n ≡ both (passed vectors) (cellAt (T a) n) (cellAt (T b) n)) z (pass-inside w (T a) (T b) row g (y - row) (omega (arith, acc .long)))))
+            (sym (subst (λ n. cellAt (passDone w (T a) (T b) row) n ≡ both (passed vectors) (cellAt (T a) n) (cellAt (T b) n)) z
+            (pass-inside w (T a) (T b) row g (y - row) (omega (arith, acc .long)))))
             (holds-both (passed vectors) (cellAt (T a) y) (cellAt (T b) y) (k .flat .cell a y) (k .flat .cell b y) (k .holds a y) (k .holds b y)))
         go true false e f =
             let m : row + length list ≤ y = ltb-false y (row + length list) f in
@@ -89,8 +102,10 @@ module _ (p : Forest (Unit {0}) (Unit {0})) (s : State) (k : Kept p s) where
 
     pub pass-kept : Kept p (record { tables = replaced (s .tables) b (written w (passDone w (T a) (T b) row)); past = passing sets (s .past) a b (within row (length list)) })
     pass-kept =
-        changed p s k w wide b bw (passDone w (T a) (T b) row) (passed-good w (T a) (T b) row g) (same-device ∙ k .device b bw) (pass-shape w (T a) (T b) row g ∙ k .shapes b bw) (omega (arith, same-count)) pass-early
-        (passing vectors (k .flat) a b (within row (length list))) _ (count-same b ∙ k .counts b ∙ sym same-count) (λ x e. count-same x) pass-holds (λ x y e. there-same x y e) (pass-inv (k .inv) a b (within row (length list)))
+        changed p s k w wide b bw (passDone w (T a) (T b) row) (passed-good w (T a) (T b) row g) (same-device ∙ k .device b bw) (pass-shape w (T a) (T b) row g ∙ k .shapes b bw)
+        (omega (arith, same-count)) pass-early
+        (passing vectors (k .flat) a b (within row (length list))) _ (count-same b ∙ k .counts b ∙ sym same-count) (λ x e. count-same x) pass-holds (λ x y e. there-same x y e)
+        (pass-inv (k .inv) a b (within row (length list)))
       where
         same-device : passDone w (T a) (T b) row .clock .device ≡ T b .clock .device
         same-device = unfold passDone in refl
@@ -118,24 +133,21 @@ module _ (p : Forest (Unit {0}) (Unit {0})) (s : State) (k : Kept p s) where
     gd : GoodTable w (T d)
     gd = acc .good
 
-    -- the next event has one name in both
-    next-stamp : next vectors (k .flat) d ≡ newStamp (T d .clock)
-    unfolding next
-    next-stamp = ap₂ (λ x n. record { device = x; count = suc n }) (sym (k .device d dw)) (k .counts d)
-
-    event-cell : (y : ℕ) → eqb y row ≡ true → eventful vectors (k .flat) d row (eventNamed e) mark .cell d y ≡ record { row = eventRow (eventNamed e) (newStamp (T d .clock)) mark (k .flat .cell d y .row); known = column (T d .clock .device) (suc (T d .clock .counter)) (k .flat .cell d y .known) }
+    event-cell : (y : ℕ) → eqb y row ≡ true → eventful vectors (k .flat) d row (eventNamed e) mark .cell d y
+        ≡ record { row = eventRow (eventNamed e) (newStamp (T d .clock)) mark (k .flat .cell d y .row); known = column (T d .clock .device) (suc (T d .clock .counter)) (k .flat .cell d y .known) }
     unfolding eventful
     event-cell y q =
         put-here vectors (tick vectors (k .flat) d row) d (λ y. eqb y row) _ y q
-        ∙ ap₂ (λ (c : Cell Vec) (n : Stamp). record { row = eventRow (eventNamed e) n mark (c .row); known = c .known }) (tick-here vectors (k .flat) d row y) next-stamp
-        ∙ ap (λ (n : Stamp). record { row = eventRow (eventNamed e) (newStamp (T d .clock)) mark (k .flat .cell d y .row); known = column (n .device) (n .count) (k .flat .cell d y .known) }) next-stamp
+        ∙ ap₂ (λ (c : Cell Vec) (n : Stamp). record { row = eventRow (eventNamed e) n mark (c .row); known = c .known }) (tick-here vectors (k .flat) d row y) (next-stamp d dw)
+        ∙ ap (λ (n : Stamp). record { row = eventRow (eventNamed e) (newStamp (T d .clock)) mark (k .flat .cell d y .row); known = column (n .device) (n .count) (k .flat .cell d y .known) })
+        (next-stamp d dw)
 
     away-cell : (y : ℕ) → eqb y row ≡ false → eventful vectors (k .flat) d row (eventNamed e) mark .cell d y ≡ reset (ticked (T d .clock)) (k .flat .cell d y)
     unfolding eventful
     away-cell y q =
         put-away vectors (tick vectors (k .flat) d row) d (λ y. eqb y row) _ y q
         ∙ tick-here vectors (k .flat) d row y
-        ∙ ap (λ (n : Stamp). record { row = k .flat .cell d y .row; known = column (n .device) (n .count) (k .flat .cell d y .known) }) next-stamp
+        ∙ ap (λ (n : Stamp). record { row = k .flat .cell d y .row; known = column (n .device) (n .count) (k .flat .cell d y .known) }) (next-stamp d dw)
 
     -- what stands at the sheet
     before : cell (T d .clock) (above (T d .tree) row) (acc .sheet) ≡ k .flat .cell d row
@@ -151,7 +163,8 @@ module _ (p : Forest (Unit {0}) (Unit {0})) (s : State) (k : Kept p s) where
             ∙ ap (λ (c : Cell Vec). record { row = eventRow (eventNamed e) (newStamp (T d .clock)) mark (c .row); known = column (T d .clock .device) (suc (T d .clock .counter)) (c .known) }) before
             ∙ sym (event-cell row (eq-eqb row row refl)))
           where
-            twice : (j : ℕ) (t : Bool) → cond t (suc (T d .clock .counter)) (max (above (T d .tree) row j) (acc .sheet .floor j)) ≡ cond t (suc (T d .clock .counter)) (cond t (T d .clock .counter) (max (above (T d .tree) row j) (acc .sheet .floor j)))
+            twice : (j : ℕ) (t : Bool) → cond t (suc (T d .clock .counter)) (max (above (T d .tree) row j) (acc .sheet .floor j))
+                ≡ cond t (suc (T d .clock .counter)) (cond t (T d .clock .counter) (max (above (T d .tree) row j) (acc .sheet .floor j)))
             twice j true = refl
             twice j false = refl
 
@@ -215,10 +228,6 @@ module _ (p : Forest (Unit {0}) (Unit {0})) (s : State) (k : Kept p s) where
     abbrev n : ℕ
     n = counted w (T a) (T b) row c mark g₂ (acc .sheets) (acc .alone)
 
-    next-stamp-b : next vectors (k .flat) b ≡ newStamp (T b .clock)
-    unfolding next
-    next-stamp-b = ap₂ (λ x n. record { device = x; count = suc n }) (sym (k .device b bw₂)) (k .counts b)
-
     abbrev moved : World Vec
     moved = cond (stamps c) (tick vectors (k .flat) b row) (k .flat)
 
@@ -239,8 +248,9 @@ module _ (p : Forest (Unit {0}) (Unit {0})) (s : State) (k : Kept p s) where
     moved-b : (y : ℕ) → moved .cell b y ≡ record { row = k .flat .cell b y .row; known = column (T b .clock .device) n (k .flat .cell b y .known) }
     moved-b y = go (stamps c)
       where
-        go : (t : Bool) → cond t (tick vectors (k .flat) b row) (k .flat) .cell b y ≡ record { row = k .flat .cell b y .row; known = column (T b .clock .device) (cond t (suc (T b .clock .counter)) (T b .clock .counter)) (k .flat .cell b y .known) }
-        go true = tick-here vectors (k .flat) b row y ∙ ap (λ (m : Stamp). record { row = k .flat .cell b y .row; known = column (m .device) (m .count) (k .flat .cell b y .known) }) next-stamp-b
+        go : (t : Bool) → cond t (tick vectors (k .flat) b row) (k .flat) .cell b y
+            ≡ record { row = k .flat .cell b y .row; known = column (T b .clock .device) (cond t (suc (T b .clock .counter)) (T b .clock .counter)) (k .flat .cell b y .known) }
+        go true = tick-here vectors (k .flat) b row y ∙ ap (λ (m : Stamp). record { row = k .flat .cell b y .row; known = column (m .device) (m .count) (k .flat .cell b y .known) }) (next-stamp b bw₂)
         go false = sym (own-column y)
 
     before-a : cell (T a .clock) (above (T a .tree) row) (acc .sheets .a) ≡ k .flat .cell a row
@@ -256,17 +266,25 @@ module _ (p : Forest (Unit {0}) (Unit {0})) (s : State) (k : Kept p s) where
         at-row : Holds (cellAt (settleDone (T a) (T b) row c mark) row) (settling vectors (k .flat) a b row c mark .cell b row)
         at-row =
             subst (λ o. Holds o (settling vectors (k .flat) a b row c mark .cell b row)) (sym (settle-here w (T a) (T b) row c mark g₂ (acc .sheets) (acc .alone)))
-            (ap₂ (λ (x : Cell Vec) (z : Cell Vec). record { row = settleRow c (newStamp (T b .clock)) mark (x .row) (z .row); known = greatest (x .known) (column (T b .clock .device) n (z .known)) }) before-a before-b
-            ∙ ap (λ (m : Stamp). record { row = settleRow c m mark (k .flat .cell a row .row) (k .flat .cell b row .row); known = greatest (k .flat .cell a row .known) (column (T b .clock .device) n (k .flat .cell b row .known)) }) (sym next-stamp-b)
+            (ap₂ (λ (x : Cell Vec) (z : Cell Vec). record {
+              row = settleRow c (newStamp (T b .clock)) mark (x .row) (z .row);
+              known = greatest (x .known) (column (T b .clock .device) n (z .known));
+            }) before-a before-b
+            ∙ ap (λ (m : Stamp). record {
+              row = settleRow c m mark (k .flat .cell a row .row) (k .flat .cell b row .row);
+              known = greatest (k .flat .cell a row .known) (column (T b .clock .device) n (k .flat .cell b row .known));
+            }) (sym (next-stamp b bw₂))
             ∙ sym (put-here vectors moved b (λ y. eqb y row) _ row (eq-eqb row row refl)
-            ∙ ap₂ (λ (x : Cell Vec) (z : Cell Vec). record { row = settleRow c (next vectors (k .flat) b) mark (x .row) (z .row); known = greatest (x .known) (z .known) }) (moved-a row) (moved-b row)))
+            ∙ ap₂ (λ (x : Cell Vec) (z : Cell Vec). record { row = settleRow c (next vectors (k .flat) b) mark (x .row) (z .row); known = greatest (x .known) (z .known) }) (moved-a row)
+            (moved-b row)))
 
         go : (t : Bool) → eqb y row ≡ t → Holds (cellAt (settleDone (T a) (T b) row c mark) y) (settling vectors (k .flat) a b row c mark .cell b y)
         go true q = subst (λ n. Holds (cellAt (settleDone (T a) (T b) row c mark) n) (settling vectors (k .flat) a b row c mark .cell b n)) (sym (eqb-true y row q)) at-row
         go false q =
             subst (λ o. Holds o (settling vectors (k .flat) a b row c mark .cell b y)) (sym (settle-there w (T a) (T b) row c mark g₂ (acc .sheets) (acc .alone) y q))
             (subst (Holds (Option·map (reset (record { device = T b .clock .device; counter = n })) (cellAt (T b) y))) (sym (put-away vectors moved b (λ y. eqb y row) _ y q ∙ moved-b y))
-            (holds-map (reset (record { device = T b .clock .device; counter = n })) (reset (record { device = T b .clock .device; counter = n })) (cellAt (T b) y) (k .flat .cell b y) (λ x z. ap (reset (record { device = T b .clock .device; counter = n })) z) (k .holds b y)))
+            (holds-map (reset (record { device = T b .clock .device; counter = n })) (reset (record { device = T b .clock .device; counter = n })) (cellAt (T b) y) (k .flat .cell b y)
+            (λ x z. ap (reset (record { device = T b .clock .device; counter = n })) z) (k .holds b y)))
 
     settle-early : Early counter (settleDone (T a) (T b) row c mark .tree) zeros
     unfolding settleSheet
@@ -348,7 +366,7 @@ module _ (p : Forest (Unit {0}) (Unit {0})) (s : State) (k : Kept p s) where
     x = widened (s .tables d) wider e
 
     dw₃ : d < devices
-    dw₃ = there p s k 8 d (x .good)
+    dw₃ = there p s k _ d (x .good)
 
     pub widen-kept : Kept p (record { tables = replaced (s .tables) d (written 16 (T d)); past = s .past })
     widen-kept =

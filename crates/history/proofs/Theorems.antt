@@ -3,61 +3,92 @@
 -- Both directions: every statement about a source a and a target b is for any a and b, so it holds whichever of two devices
 -- is the source. Nothing more is to be shown for a pass the other way.
 use Prim.Native.Nat.{ℕ, _+_, _-_, _*_, _≤_, _<_}
-use mathlib.Core.Path.{_≡_, sym, ap, _∙_, subst}
-use mathlib.Core.Bool.{true, false, not, _||_, cond}
-use mathlib.Core.List.{List}
+use mathlib.Core.Path.{_≡_, refl, sym, ap, _∙_, subst}
+use mathlib.Core.Bool.{true, false, not, _&&_, _||_, cond}
+use mathlib.Core.List.{List, [], _∷_}
 use mathlib.Core.Option.{some}
-use mathlib.Core.Logic.{_⊎_, _↔_}
+use mathlib.Core.Logic.{_⊎_, inl, inr, _↔_}
+use native.Mathlib.Omega.{arith}
 use lib.Dec.{leb, eqb}
 use lib.ListN.{length, getD, take}
 use Rattle.paper.specs.declared.Ruling.the-variants.{Conflict}
+use Rattle.paper.specs.declared.Stamp.{Stamp}
 use Rattle.paper.specs.Columns.{Vec, covers}
 use Rattle.paper.specs.Rules.{Cell, ruling, numberOf}
+use Rattle.paper.specs.Acts.{fits, stamps}
 use Rattle.paper.specs.Tree.{size, levels, subtree, sheetHere}
 use Rattle.paper.specs.Words.{wide, Table, tableOf}
-use Rattle.paper.specs.Refusals.{when}
+use Rattle.paper.specs.Refusals.{first, when}
 use Rattle.paper.specs.Check.{checkOf}
-use Rattle.paper.specs.Calls.{Passed, isFolder, twoRefused, passDone}
-use Rattle.paper.specs.Widths.{widthOf, tableAny, checkAny, newAny, widenOf, eventAny, twoWidths, passAny, settleAny}
+use Rattle.paper.specs.Calls.{Passed, isFolder, oneToThree, eventNamed, lastCount, twoRefused, passOf, passDone, choiceNamed, conflicts}
+use Rattle.paper.specs.Widths.{Width, widthOf, tableAny, checkAny, newAny, widenOf, eventAny, twoWidths, passAny, settleAny}
 use Rattle.laws.proofs.Tables.{check-facts, checked-written}
 use Rattle.laws.proofs.Widths.{width-either, width-written, widened, widen-same, pass-any}
 use Rattle.laws.proofs.Forests.{shape}
-use Rattle.history.specs.Knowledge.{vectors, sets, passed}
-use Rattle.history.specs.Run.{Step, State, within, devices, Makes, ran, begun}
+use Rattle.history.specs.Knowledge.{sets, passed}
+use Rattle.history.specs.Vectors.{vectors}
+use Rattle.paper.specs.Devices.{devices}
+use Rattle.history.specs.Run.{Step, State, within, Makes, ran, begun, Without, Was-made}
 use Rattle.history.specs.Look.{cellAt, both, overAt, beneathFive, tally, levelAt, unheard, widest}
 use Rattle.history.proofs.Bridge.{three}
-use Rattle.history.proofs.CallsAccepted.{pass-accepted}
+use Rattle.history.proofs.CallsAccepted.{pass-accepted, pass-at}
 use Rattle.history.proofs.NewTables.{planRows}
 use Rattle.history.proofs.RunInvariant.{Kept}
 use Rattle.history.proofs.PlanOfRun.{kept-widths, kept-two, kept-pass, kept-apart, kept-said}
-use Rattle.history.proofs.CallsOnWords.{pass-long, pass-number-at, pass-cell, pass-away, pass-sheets, pass-clock, pass-head, pass-sound, pass-folder, pass-empty, pass-looked, pass-few, new-sound, event-sound, settle-sound}
+use Rattle.history.proofs.CallsOnWords.{pass-long, pass-number-at, pass-cell, pass-away, pass-sheets, pass-clock, pass-head}
+use Rattle.history.proofs.CallsOnWords.{pass-sound, pass-folder, pass-empty, pass-looked, pass-few, new-sound, event-sound, settle-sound}
+use Rattle.history.proofs.ToldByHistory.{event-told, settle-told, made-past}
+use Rattle.history.proofs.LateCounts.{kept-without}
 use Rattle.history.proofs.EveryRun.{begun-kept, run-kept}
 
 -- the invariant after a run, for the proofs of 1 and 2
-kept : (columns : ℕ → ℕ) (plan : List ℕ) (lent : ℕ → List ℕ) → Makes columns plan lent → (steps : List Step) → Kept (shape (planRows 16 plan)) (ran columns plan lent steps)
-kept columns plan lent makes steps = run-kept (shape (planRows 16 plan)) (begun columns plan lent) steps (begun-kept columns plan lent makes)
+kept : (columns : ℕ → ℕ) (plan : List ℕ) (lent : ℕ → List ℕ) → Makes columns plan lent → (steps : List Step) → Kept (shape (planRows devices plan)) (ran columns plan lent steps)
+kept columns plan lent makes steps = run-kept (shape (planRows devices plan)) (begun columns plan lent) steps (begun-kept columns plan lent makes)
 
 -- 1. DEMAND 3. After any run, for any two devices a and b and any row: if the pass from a to b at that row is accepted, then
 -- at each row of the subtree that is a sheet (a zero of the plan), beneath folders that were passed over too, the number in
 -- the answer list is the number of the history's ruling; and the list says 3 there exactly when the history says conflict.
 -- The devices are sixteen, each with eight columns (0 to 7 only) or sixteen; a narrow table may be widened on the way.
-pub record Demand-3 (plan : List ℕ) (s : State) (a b row : ℕ) (list : List ℕ) : Type 0 where
+pub record Demand-3 (plan : List ℕ) (s : State) (a b row : ℕ) (list : List ℕ) (out : Passed) : Type 0 where
   pub said : (j : ℕ) → j < length list → getD plan (row + j) 1 ≡ 0
-      → getD (passAny (s .tables a) (s .tables b) row list .answers) j 0 ≡ numberOf (ruling (sets .knows) (s .past .cell a (row + j)) (s .past .cell b (row + j)))
+      → getD (out .answers) j 0 ≡ numberOf (ruling (sets .knows) (s .past .cell a (row + j)) (s .past .cell b (row + j)))
   pub conflict : (j : ℕ) → j < length list → getD plan (row + j) 1 ≡ 0
-      → (getD (passAny (s .tables a) (s .tables b) row list .answers) j 0 ≡ 3) ↔ (ruling (sets .knows) (s .past .cell a (row + j)) (s .past .cell b (row + j)) ≡ Conflict)
+      → (getD (out .answers) j 0 ≡ 3) ↔ (ruling (sets .knows) (s .past .cell a (row + j)) (s .past .cell b (row + j)) ≡ Conflict)
 
 pub demand-3 : (columns : ℕ → ℕ) (plan : List ℕ) (lent : ℕ → List ℕ) → Makes columns plan lent → (steps : List Step) (a b row : ℕ) (list : List ℕ)
     → passAny (ran columns plan lent steps .tables a) (ran columns plan lent steps .tables b) row list .number ≡ 0
-    → Demand-3 plan (ran columns plan lent steps) a b row list
+    → Demand-3 plan (ran columns plan lent steps) a b row list (passAny (ran columns plan lent steps .tables a) (ran columns plan lent steps .tables b) row list)
 demand-3 columns plan lent makes steps a b row list e =
     let said = kept-said columns plan lent makes (ran columns plan lent steps) (kept columns plan lent makes steps) a b row list e in
     record { said = said; conflict = λ j l z. three _ _ (said j l z) }
 
--- 2. NEVER: in a run no call on the tables of two different devices is refused for them but by 19, exactly where their widths
--- differ, and else by 8; so 6 and 7 never occur. A pass between tables of one width is refused by 8 or 9 alone, one between
--- tables of two widths by 19, changing nothing. Every table is sound.
+-- The same of the pass at a width w
+abbrev pub Demand-3-at : ℕ → Type 0
+Demand-3-at w = (columns : ℕ → ℕ) (plan : List ℕ) (lent : ℕ → List ℕ) → Makes columns plan lent → (steps : List Step) (a b row : ℕ) (list : List ℕ)
+    → passOf w (ran columns plan lent steps .tables a) (ran columns plan lent steps .tables b) row list .number ≡ 0
+    → Demand-3 plan (ran columns plan lent steps) a b row list (passOf w (ran columns plan lent steps .tables a) (ran columns plan lent steps .tables b) row list)
+
+-- holds at either width of the product, whatever columns the other devices have:
+pub demand-3-at : (w : ℕ) → Width w → Demand-3-at w
+demand-3-at w either columns plan lent makes steps a b row list e =
+    let s = ran columns plan lent steps in
+    let same = pass-at w either (s .tables a) (s .tables b) row list e in
+    subst (Demand-3 plan s a b row list) same (demand-3 columns plan lent makes steps a b row list (ap (λ (o : Passed). o .number) same ∙ e))
+
+-- with eight columns, so in every run of devices 0 to 7 that stay narrow (the others are made and do nothing),
+pub demand-3-narrow : Demand-3-at 8
+demand-3-narrow = demand-3-at 8 (inl refl)
+
+-- and with sixteen, so in every run of wide tables.
+pub demand-3-wide : Demand-3-at 16
+demand-3-wide = demand-3-at 16 (inr refl)
+
+-- 2. NEVER: in a run no call is refused by 6 and none by 7, whatever two device numbers it is given. The tables of two different
+-- devices are refused by 19, exactly where their widths differ, and else by 8 alone. A pass between tables of one width is
+-- refused by 8 or 9 alone, one between tables of two widths by 19, changing nothing. Every table is sound.
 pub record Never (plan : List ℕ) (s : State) : Type 0 where
+  pub six : Without 6 s
+  pub seven : Without 7 s
   pub widths : (a b row : ℕ) → a < devices → b < devices → (a ≡ b → ⊥) → twoWidths (s .tables a) (s .tables b) ≡ when (not (eqb (widthOf (s .tables a)) (widthOf (s .tables b)))) 19
   pub two : (a b row : ℕ) → a < devices → b < devices → (a ≡ b → ⊥) → widthOf (s .tables a) ≡ widthOf (s .tables b)
       → twoRefused (widthOf (s .tables b)) (s .tables a) (s .tables b) row ≡ when (leb (length plan) row) 8
@@ -72,6 +103,8 @@ never columns plan lent makes steps =
     let s = ran columns plan lent steps in
     let k = kept columns plan lent makes steps in
     record {
+      six = kept-without 6 (omega arith) (omega arith) _ s k;
+      seven = kept-without 7 (omega arith) (omega arith) _ s k;
       widths = kept-widths columns plan lent makes s k;
       two = kept-two columns plan lent makes s k;
       pass = kept-pass columns plan lent makes s k;
@@ -187,3 +220,25 @@ pub looked : (s t : List ℕ) (row : ℕ) (list : List ℕ) → passAny s t row 
 looked s t row list e =
     let acc = pass-accepted s t row list e in
     record { rows = pass-looked (widthOf t) (tableAny s) (tableAny t) row list _ acc; few = pass-few (widthOf t) (tableAny s) (tableAny t) row list _ acc }
+
+-- 7. TOLD BY THE HISTORY: at a sheet, an event that is 1, 2 or 3 is refused by 10 exactly where it does not fit the kind that
+-- the history has there, and else only by 15; a settling between two devices' tables of one width, by a choice 1, 2 or 3, is
+-- refused by 14 exactly where the history says no conflict, and else only by 15. The history's sets are finite: an event is
+-- in one of them only if its device, one of the sixteen, has made it.
+pub record Told (plan : List ℕ) (s : State) : Type 0 where
+  pub event : (d row event mark : ℕ) → d < devices → oneToThree event ≡ true → getD plan row 1 ≡ 0
+      → eventAny (s .tables d) row event mark .number
+      ≡ first (when (not (fits (eventNamed event) (s .past .cell d row .row .kind))) 10 ∷ when (eqb (s .past .count d) lastCount) 15 ∷ [])
+  pub settle : (a b row : ℕ) → a < devices → b < devices → (a ≡ b → ⊥) → widthOf (s .tables a) ≡ widthOf (s .tables b) → getD plan row 1 ≡ 0
+      → (choice mark : ℕ) → oneToThree choice ≡ true
+      → settleAny (s .tables a) (s .tables b) row choice mark .number
+      ≡ first (when (not (conflicts (some (ruling (sets .knows) (s .past .cell a row) (s .past .cell b row))))) 14
+      ∷ when (stamps (choiceNamed choice) && eqb (s .past .count b) lastCount) 15
+      ∷ [])
+  pub made : (d y : ℕ) (e : Stamp) → s .past .cell d y .known e ≡ true → Was-made s e
+
+pub told : (columns : ℕ → ℕ) (plan : List ℕ) (lent : ℕ → List ℕ) → Makes columns plan lent → (steps : List Step) → Told plan (ran columns plan lent steps)
+told columns plan lent makes steps =
+    let s = ran columns plan lent steps in
+    let k = kept columns plan lent makes steps in
+    record { event = event-told columns plan lent makes s k; settle = settle-told columns plan lent makes s k; made = made-past columns plan lent makes s k }

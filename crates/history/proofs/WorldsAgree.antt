@@ -1,6 +1,6 @@
 -- A world of vectors and one of sets agree when all their cells fit. Events, passes and settlings keep that.
 use Prim.{Unit, tt}
-use Prim.Native.Nat.{ℕ, suc, _≤_}
+use Prim.Native.Nat.{ℕ, suc, _≤_, _<_}
 use mathlib.Core.Path.{_≡_, refl, sym, ap, ap₂, _∙_}
 use mathlib.Core.Bool.{Bool, true, false, _&&_, cond, false≢true}
 use native.Mathlib.Omega.{arith}
@@ -11,15 +11,18 @@ use Rattle.paper.specs.declared.Stamp.{Stamp}
 use Rattle.paper.specs.Columns.{Vec}
 use Rattle.paper.specs.Rules.{Kind, never, live, removed, Row, Heard, news, rule, Cell, ruling}
 use Rattle.paper.specs.Acts.{Event, creates, changes, removes, isLive, fits, eventRow, Choice, theirs, own, new, stamps, birthOf, settleRow}
-use Rattle.history.specs.Knowledge.{Sort, vectors, sets}
+use Rattle.history.specs.Knowledge.{Sort, sets}
+use Rattle.history.specs.Vectors.{vectors}
 use Rattle.history.specs.World.{World, begin, next, tick, put, eventful, passing, settling}
-use Rattle.history.proofs.CellsFit.{Set, Stamped, Born, born-map, Fits, or-first, or-second, join-fits, take-fits, stay-fits, passed-fits, same-refl, up, fresh, past-up, other-fits, self-fits}
+use Rattle.history.proofs.CellsFit.{Set, Stamped, Born, born-map, Fits, or-first, or-second, join-fits, take-fits}
+use Rattle.history.proofs.CellsFit.{stay-fits, passed-fits, same-refl, up, fresh, past-up, made-named, other-fits, self-fits}
 
 -- all cells fit; every event of a sheet's log has been made
 pub record Inv (v : World Vec) (h : World Set) : Type 0 where
   pub log : ℕ → Set
   pub counts : (d : ℕ) → h .count d ≡ v .count d
   pub past : (s : ℕ) (e : Stamp) → log s e ≡ true → e .count ≤ v .count (e .device)
+  pub named : (s : ℕ) (e : Stamp) → log s e ≡ true → 0 < e .count
   pub cells : (d s : ℕ) → Fits (v .count) (log s) d (v .cell d s) (h .cell d s)
 
 -- WHOLE WORLDS
@@ -30,6 +33,7 @@ module _ {v : World Vec} {h : World Set} (i : Inv v h) where
     log = λ y. sets .made (eqb y s) (fresh (v .count) d) (i .log y);
     counts = λ x. ap (λ n. cond (eqb x d) (suc n) n) (i .counts x);
     past = λ y. past-up (v .count) d (i .log y) (i .past y) (eqb y s);
+    named = λ y e. made-named (v .count) d (i .log y) (eqb y s) e (i .named y e);
     cells = λ x y. cell′ x y (eqb x d) refl;
   }
     where
@@ -42,7 +46,7 @@ module _ {v : World Vec} {h : World Set} (i : Inv v h) where
   put-inv : (d : ℕ) (here : ℕ → Bool) (vc : ℕ → Cell Vec) (hc : ℕ → Cell Set) → ((y : ℕ) → here y ≡ true → Fits (v .count) (i .log y) d (vc y) (hc y))
       → Inv (put vectors v d here vc) (put sets h d here hc)
   unfolding put
-  put-inv d here vc hc f = record { log = i .log; counts = i .counts; past = i .past; cells = λ x y. cell′ x y (eqb x d) (here y) refl refl }
+  put-inv d here vc hc f = record { log = i .log; counts = i .counts; past = i .past; named = i .named; cells = λ x y. cell′ x y (eqb x d) (here y) refl refl }
     where
       cell′ : (x y : ℕ) (t u : Bool) → eqb x d ≡ t → here y ≡ u → Fits (v .count) (i .log y) x (cond (t && u) (vc y) (v .cell x y)) (cond (t && u) (hc y) (h .cell x y))
       cell′ x y true true e u = rw (eqb-true x d e) (f y u)
@@ -196,6 +200,7 @@ begin-inv = record {
   log = λ s e. false;
   counts = λ d. refl;
   past = λ s e l. absurd (false≢true l);
+  named = λ s e l. absurd (false≢true l);
   cells = λ d s. record {
     rows = refl;
     bound = λ x. omega arith;

@@ -117,7 +117,8 @@ module _ (w : ℕ) (c : Clock) where
   rows-pass (sheet s r) u g = both-and (facts-sheet u (sheetWords w s) (sheet-passes u s (g .0))) (rows-pass r u (g .1))
   rows-pass (folder f k r) u g =
       both-and (ap (folderFits w c (folderRow w f k)) (rows-read w k (good-thin k (greatest u f) (g .1))) ∙ facts-folder (folderRow w f k) k (folder-passes f k (g .0)))
-      (both-and (ap (λ v. rowsFit w c (rowsOf w k) (greatest u v)) (folder-floor w (suc (size k)) f (newest k) (least f k) (most f k) (g .0 .narrow)) ∙ rows-pass k (greatest u f) (g .1)) (rows-pass r u (g .2)))
+      (both-and (ap (λ v. rowsFit w c (rowsOf w k) (greatest u v)) (folder-floor w (suc (size k)) f (newest k) (least f k) (most f k) (g .0 .narrow)) ∙ rows-pass k (greatest u f) (g .1))
+      (rows-pass r u (g .2)))
 
   -- WHAT PASSES IS WRITTEN
 
@@ -126,8 +127,8 @@ module _ (w : ℕ) (c : Clock) where
   sheet-back u r s f =
       let z : length (drop (newestAt w) r) ≡ 3 * w = omega (arith, length-drop (newestAt w) r, s .long) in
       ap₂ (λ x y. x ∷ 1 ∷ getD r 2 0 ∷ getD r 3 0 ∷ getD r 4 0 ∷ getD r 5 0 ∷ getD r 6 0 ∷ 0 ∷ y) (number-kind (getD r 0 0) (s .kind))
-      (ap₂ _++_ (columns-part w floorAt r (omega (arith, s .long))) (ap (λ n. replicate n 0) (sym z) ∙ sym (blank-zeros (drop (newestAt w) r) (f .rest)) ∙ skip 8 w r) ∙ take-append-drop w (drop 8 r))
-      ∙ ap₂ (λ x y. getD r 0 0 ∷ x ∷ getD r 2 0 ∷ getD r 3 0 ∷ getD r 4 0 ∷ getD r 5 0 ∷ getD r 6 0 ∷ y ∷ drop 8 r) (sym (s .one)) (sym (f .seven))
+      (ap₂ _++_ (columns-part w floorAt r (omega (arith, s .long))) (ap (λ n. replicate n 0) (sym z) ∙ sym (blank-zeros (drop (newestAt w) r) (f .rest)) ∙ skip floorAt w r) ∙ take-append-drop w (drop floorAt r))
+      ∙ ap₂ (λ x y. getD r 0 0 ∷ x ∷ getD r 2 0 ∷ getD r 3 0 ∷ getD r 4 0 ∷ getD r 5 0 ∷ getD r 6 0 ∷ y ∷ drop floorAt r) (sym (s .one)) (sym (f .seven))
       ∙ sym (eight r (omega (arith, s .long)))
 
   -- a vector's words, where the vector is alike to v
@@ -135,15 +136,15 @@ module _ (w : ℕ) (c : Clock) where
   alike-part i r v h a = columns-same w v (part w i r) (record { at = λ j l. sym (alike-at w (part w i r) v a j l) }) ∙ columns-part w i r h
 
   -- four vectors are what stands after eight words
-  four : (r : List ℕ) → length r ≡ wide w → take w (drop 8 r) ++ (take w (drop (newestAt w) r) ++ (take w (drop (leastAt w) r) ++ take w (drop (mostAt w) r))) ≡ drop 8 r
+  four : (r : List ℕ) → length r ≡ wide w → take w (drop floorAt r) ++ (take w (drop (newestAt w) r) ++ (take w (drop (leastAt w) r) ++ take w (drop (mostAt w) r))) ≡ drop floorAt r
   four r e =
       let p : leastAt w ≡ newestAt w + w = omega arith in
       let q : mostAt w ≡ leastAt w + w = omega arith in
-      ap (λ x. take w (drop 8 r) ++ (take w (drop (newestAt w) r) ++ (take w (drop (leastAt w) r) ++ x)))
+      ap (λ x. take w (drop floorAt r) ++ (take w (drop (newestAt w) r) ++ (take w (drop (leastAt w) r) ++ x)))
       (take-all w (drop (mostAt w) r) (omega (arith, length-drop (mostAt w) r)) ∙ ap (λ z. drop z r) q ∙ skip (leastAt w) w r)
-      ∙ ap (λ x. take w (drop 8 r) ++ (take w (drop (newestAt w) r) ++ x)) (take-append-drop w (drop (leastAt w) r) ∙ ap (λ z. drop z r) p ∙ skip (newestAt w) w r)
-      ∙ ap (λ x. take w (drop 8 r) ++ x) (take-append-drop w (drop (newestAt w) r) ∙ skip 8 w r)
-      ∙ take-append-drop w (drop 8 r)
+      ∙ ap (λ x. take w (drop floorAt r) ++ (take w (drop (newestAt w) r) ++ x)) (take-append-drop w (drop (leastAt w) r) ∙ ap (λ z. drop z r) p ∙ skip (newestAt w) w r)
+      ∙ ap (λ x. take w (drop floorAt r) ++ x) (take-append-drop w (drop (newestAt w) r) ∙ skip floorAt w r)
+      ∙ take-append-drop w (drop floorAt r)
 
   cons-eight : {a₀ a₁ a₂ a₃ a₄ a₅ a₆ a₇ b₀ b₁ b₂ b₃ b₄ b₅ b₆ b₇ : ℕ} {x y : List ℕ} → a₀ ≡ b₀ → a₁ ≡ b₁ → a₂ ≡ b₂ → a₃ ≡ b₃ → a₄ ≡ b₄ → a₅ ≡ b₅ → a₆ ≡ b₆ → a₇ ≡ b₇ → x ≡ y
       → a₀ ∷ a₁ ∷ a₂ ∷ a₃ ∷ a₄ ∷ a₅ ∷ a₆ ∷ a₇ ∷ x ≡ b₀ ∷ b₁ ∷ b₂ ∷ b₃ ∷ b₄ ∷ b₅ ∷ b₆ ∷ b₇ ∷ y
@@ -157,7 +158,8 @@ module _ (w : ℕ) (c : Clock) where
       cons-eight (sym (s .kind)) (sym (s .rows)) (at 0 (omega arith)) (at 1 (omega arith)) (at 2 (omega arith)) (at 3 (omega arith)) (at 4 (omega arith)) (at 5 (omega arith))
       (ap₂ _++_ (columns-part w floorAt r (omega (arith, s .long)))
       (ap₂ _++_ (alike-part (newestAt w) r (newest k) (omega (arith, s .long)) (f .newest))
-      (ap₂ _++_ (alike-part (leastAt w) r (least (floorOf w r) k) (omega (arith, s .long)) (f .least)) (alike-part (mostAt w) r (most (floorOf w r) k) (omega (arith, s .long)) (f .most)))) ∙ four r (s .long))
+      (ap₂ _++_ (alike-part (leastAt w) r (least (floorOf w r) k) (omega (arith, s .long)) (f .least)) (alike-part (mostAt w) r (most (floorOf w r) k) (omega (arith, s .long)) (f .most))))
+      ∙ four r (s .long))
       ∙ sym (eight r (omega (arith, s .long)))
 
   -- rows that fit are the rows of the tree that they write down

@@ -1,15 +1,15 @@
 -- Laws of vectors, at any number w of columns: reading them from words and writing them, and comparing them.
 use Prim.Native.Nat.{ℕ, zero, suc, _+_, _≤_, _<_, max}
 use mathlib.Core.Path.{_≡_, refl, sym, ap, ap₂, _∙_, fun-ext}
-use mathlib.Core.List.{List}
+use mathlib.Core.List.{List, _∷_}
 use mathlib.Core.Bool.{Bool, true, false, _&&_, cond, false≢true}
 use native.Mathlib.Omega.{arith}
 use lib.Dec.{leb, eqb}
 use borrow.Author.Tests.{eqb-true, eqb-false, eq-eqb, leb-true, leb-false, le-leb}
-use lib.ListN.{length, getD, take, drop, length-take, length-drop, List·getD-eq-default}
+use lib.ListN.{length, getD, take, drop, replicate, length-take, length-drop, List·getD-eq-default}
 use lib.Seq.{ext-getD, length-take-le}
 use Rattle.paper.specs.declared.Clock.{Clock}
-use Rattle.paper.specs.Columns.{Vec, full, every, covered, alike, Narrow, vec, part, columns}
+use Rattle.paper.specs.Columns.{Vec, zeros, full, every, covered, alike, Narrow, vec, part, columns}
 use Rattle.laws.proofs.Bools.{and-both, both-and}
 
 -- WORDS
@@ -24,6 +24,12 @@ unfolding columns
 columns-at zero v j h = absurd (omega arith)
 columns-at (suc w) v zero h = refl
 columns-at (suc w) v (suc j) h = columns-at w (λ i. v (suc i)) j (omega arith)
+
+-- zeros as words
+pub columns-zeros : (w : ℕ) → columns w zeros ≡ replicate w 0
+unfolding columns
+columns-zeros zero = refl
+columns-zeros (suc w) = ap (_∷_ 0) (columns-zeros w)
 
 -- words to vector to words
 pub columns-vec : (w : ℕ) (words : List ℕ) → length words ≡ w → columns w (vec words) ≡ words

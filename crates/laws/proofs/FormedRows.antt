@@ -83,7 +83,8 @@ module _ (n : ℕ) (wide : 1 < n) where
         go [] h = absurd (omega arith)
         go (x ∷ xs) h = refl
 
-    order-at : (m lv : ℕ) → 0 < lv → kindWord r ≤ 3 → (eqb (kindWord r) 3 || eqb (suc c) 1) ≡ true → inOrder n m (lv - 1) k ≡ true → inOrder n m lv s ≡ true → inOrder n (suc m) lv (r ++ (k ++ s)) ≡ true
+    order-at : (m lv : ℕ) → 0 < lv → kindWord r ≤ 3 → (eqb (kindWord r) 3 || eqb (suc c) 1) ≡ true → inOrder n m (lv - 1) k ≡ true → inOrder n m lv s ≡ true
+        → inOrder n (suc m) lv (r ++ (k ++ s)) ≡ true
     order-at m lv h l e a b =
         order-cons m lv (k ++ s)
         ∙ both-and (fits-at lv h l e) (both-and (ap (inOrder n m (lv - 1)) beneath-at ∙ a) (ap (inOrder n m lv) after-at ∙ b))
@@ -138,12 +139,15 @@ module _ (n : ℕ) (wide : 1 < n) where
     placed-back : (b : Bool) → eqb (kindWord t) 3 ≡ b → Formed n lv (placed b (take n t) k s) × (wordsOf (placed b (take n t) k s) ≡ t)
     unfolding wordsOf
     placed-back true e =
-        let c : suc (size k) ≡ sizeWord t = cancel n (omega arith) (suc (size k)) (sizeWord t) (omega (arith, formed-length n (lv - 1) k gk, ap length wk, beneath-length n lv t f, row-room n lv t f)) in
+        let c : suc (size k) ≡ sizeWord t = cancel n (omega arith) (suc (size k)) (sizeWord t)
+        (omega (arith, formed-length n (lv - 1) k gk, ap length wk, beneath-length n lv t f, row-room n lv t f)) in
         ((f .level, record { long = row-length n lv t f; kind = row-kind ∙ eqb-true _ _ e; rows = row-size ∙ sym c }, gk, gs), ap₂ (λ x y. take n t ++ (x ++ y)) wk ws ∙ sym (split-part n lv t f))
     placed-back false e =
         let c = f .sheet (eqb-false (kindWord t) 3 e) in
-        let z : sizeWord t * n - n ≡ 0 = omega (arith, ap (λ z. z * n) c) in
-        ((f .level, record { long = row-length n lv t f; kind = omega (arith, row-kind, f .kind, eqb-false (kindWord t) 3 e); one = row-size ∙ c }, gs), ap (λ x. take n t ++ x) (ws ∙ ap (λ x. take x (drop n t) ++ after n t) (sym z)) ∙ sym (split-part n lv t f))
+        let z : sizeWord t * n - n ≡ 0 = omega (arith, ap (λ z. z * n) c) in (
+          (f .level, record { long = row-length n lv t f; kind = omega (arith, row-kind, f .kind, eqb-false (kindWord t) 3 e); one = row-size ∙ c }, gs),
+          ap (λ x. take n t ++ x) (ws ∙ ap (λ x. take x (drop n t) ++ after n t) (sym z)) ∙ sym (split-part n lv t f),
+        )
 
   -- words in order are well-formed rows, and their words again
   order-formed : (m lv : ℕ) (t : List ℕ) → inOrder n m lv t ≡ true → Formed n lv (parse n m t) × (wordsOf (parse n m t) ≡ t)

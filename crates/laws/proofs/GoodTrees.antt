@@ -1,7 +1,7 @@
--- Subtrees of good trees, and the shape of a tree that was walked.
+-- Subtrees of good trees, and the shape and size of a tree that was walked.
 use Prim.{tt}
 use Prim.Native.Nat.{ℕ, zero, suc, _-_}
-use mathlib.Core.Path.{_≡_, refl, ap, ap₂, subst, fun-ext}
+use mathlib.Core.Path.{_≡_, refl, sym, ap, ap₂, _∙_, subst, fun-ext}
 use mathlib.Core.Bool.{Bool, true, false, cond}
 use native.Mathlib.Omega.{arith}
 use lib.Dec.{ltb}
@@ -10,7 +10,7 @@ use Rattle.paper.specs.Columns.{Vec, greatest}
 use Rattle.paper.specs.Tree.{end, sheet, folder, mapped, size, subtree, Tree, above, fullLeast}
 use Rattle.paper.specs.Walk.{Pair, left, right, raised, over, walk}
 use Rattle.paper.specs.Good.{Good}
-use Rattle.laws.proofs.Forests.{shape}
+use Rattle.laws.proofs.Forests.{mapped-size, shape, shape-size}
 
 -- a subtree is good under the floors above it
 pub good-subtree : (w : ℕ) (c : Clock) (t : Tree) (i : ℕ) (u : Vec) → Good w c t u → Good w c (subtree t i) (greatest u (above t i))
@@ -34,7 +34,12 @@ walk-shape w a b (sheet x r) ua ub = ap (sheet tt) (walk-shape w a b r ua ub)
 walk-shape w a b (folder y k r) ua ub = go (over w a b ua ub y k) (walk-shape w a b k (greatest ua (y .a)) (greatest ub (y .b))) (walk-shape w a b r ua ub)
   where
     go : (t : Bool) → shape (walk w a b k (greatest ua (y .a)) (greatest ub (y .b))) ≡ shape (right k) → shape (walk w a b r ua ub) ≡ shape (right r)
-        → shape (cond t (folder (raised b (y .b) (fullLeast a ua (y .a) (left k))) (right k) (walk w a b r ua ub)) (folder (y .b) (walk w a b k (greatest ua (y .a)) (greatest ub (y .b))) (walk w a b r ua ub)))
+        → shape (cond t (folder (raised b (y .b) (fullLeast a ua (y .a) (left k))) (right k) (walk w a b r ua ub))
+        (folder (y .b) (walk w a b k (greatest ua (y .a)) (greatest ub (y .b))) (walk w a b r ua ub)))
         ≡ folder tt (shape (right k)) (shape (right r))
     go true p q = ap (folder tt (shape (right k))) q
     go false p q = ap₂ (folder tt) p q
+
+-- and the number of rows
+pub walk-size : (w : ℕ) (a b : Clock) (p : Pair) (ua ub : Vec) → size (walk w a b p ua ub) ≡ size p
+walk-size w a b p ua ub = sym (shape-size (walk w a b p ua ub)) ∙ ap size (walk-shape w a b p ua ub) ∙ shape-size (right p) ∙ mapped-size _ _ p

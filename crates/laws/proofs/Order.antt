@@ -111,7 +111,8 @@ module _ (n : ℕ) (wide : 0 < n) where
   ordered-step lv (x ∷ xs) h = go (rowFits n lv (x ∷ xs)) refl
     where
       go : (b : Bool) → rowFits n lv (x ∷ xs) ≡ b
-          → (b && (inOrder n (length xs) (lv - 1) (beneath n (x ∷ xs)) && inOrder n (length xs) lv (after n (x ∷ xs)))) ≡ (b && (ordered n (lv - 1) (beneath n (x ∷ xs)) && ordered n lv (after n (x ∷ xs))))
+          → (b && (inOrder n (length xs) (lv - 1) (beneath n (x ∷ xs)) && inOrder n (length xs) lv (after n (x ∷ xs))))
+          ≡ (b && (ordered n (lv - 1) (beneath n (x ∷ xs)) && ordered n lv (after n (x ∷ xs))))
       go false e = refl
       go true e =
           let f = fits-facts n lv (x ∷ xs) e in

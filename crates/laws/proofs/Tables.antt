@@ -11,6 +11,7 @@ use borrow.Author.Tests.{eqb-true, eq-eqb, leb-true, le-leb, ltb-true, lt-ltb}
 use lib.ListN.{length, getD, take, drop, replicate, length-drop, length-append, take-append-drop, List·getD-append}
 use lib.Seq.{take-at, drop-at, length-take-le}
 use Rattle.paper.specs.declared.Clock.{Clock}
+use Rattle.paper.specs.Devices.{mostRows, mostLevels}
 use Rattle.paper.specs.Columns.{zeros}
 use Rattle.paper.specs.Tree.{end, sheet, folder, mapped, size, levels, Tree}
 use Rattle.paper.specs.Order.{kindWord, sizeWord, ordered, Raw, forestOf, wordsOf}
@@ -80,14 +81,14 @@ module _ (w : ℕ) (t : Table) where
   clock-at = rw (device-at, counter-at)
 
   module _ (g : GoodTable w t) where
-    formed : Formed (wide w) 16 (rowsOf w (t .tree))
-    formed = rows-formed w (t .tree) 16 (g .deep)
+    formed : Formed (wide w) mostLevels (rowsOf w (t .tree))
+    formed = rows-formed w (t .tree) mostLevels (g .deep)
 
     pub written-length : length (written w t) ≡ size (t .tree) * wide w + wide w
     unfolding written
     written-length =
         length-append (headWords w (t .clock) (size (t .tree))) (wordsOf (rowsOf w (t .tree)))
-        ∙ ap₂ _+_ (head-long w (t .clock) (size (t .tree))) (formed-length (wide w) 16 (rowsOf w (t .tree)) formed ∙ ap (λ n. n * wide w) (rows-size w (t .tree))) ∙ omega arith
+        ∙ ap₂ _+_ (head-long w (t .clock) (size (t .tree))) (formed-length (wide w) mostLevels (rowsOf w (t .tree)) formed ∙ ap (λ n. n * wide w) (rows-size w (t .tree))) ∙ omega arith
 
     -- READ BACK what was written
     pub table-read : tableOf w (written w t) ≡ t
@@ -107,14 +108,15 @@ module _ (w : ℕ) (t : Table) where
     head-passes =
         let r = root-row w (t .tree) (g .root) in
         rw (device-at, count-at, written-length, sign-at)
-        (both-and (lt-ltb _ _ (g .device)) (both-and (lt-ltb _ _ (r .2)) (both-and (le-leb _ _ (g .few)) (both-and (eq-eqb (size (t .tree) * wide w + wide w) (size (t .tree) * wide w + wide w) refl) (both-and (eq-eqb (sign w) (sign w) refl) head-rest)))))
+        (both-and (lt-ltb _ _ (g .device)) (both-and (lt-ltb _ _ (r .2))
+        (both-and (le-leb _ _ (g .few)) (both-and (eq-eqb (size (t .tree) * wide w + wide w) (size (t .tree) * wide w + wide w) refl) (both-and (eq-eqb (sign w) (sign w) refl) head-rest)))))
 
     order-passes : orderFits w (getD (written w t) 2 0) (drop (wide w) (written w t)) ≡ true
     unfolding orderFits
     order-passes =
         let r = root-row w (t .tree) (g .root) in
         rw (count-at, rows-at)
-        (both-and (eq-eqb _ _ (r .0)) (both-and (eq-eqb _ _ (r .1)) (formed-ordered (wide w) (omega arith) (rowsOf w (t .tree)) 16 formed)))
+        (both-and (eq-eqb _ _ (r .0)) (both-and (eq-eqb _ _ (r .1)) (formed-ordered (wide w) (omega arith) (rowsOf w (t .tree)) mostLevels formed)))
 
     rules-pass : rowsFit w (tableOf w (written w t) .clock) (forestOf (wide w) (drop (wide w) (written w t))) zeros ≡ true
     rules-pass = rw (clock-at, rows-at, words-read w (t .tree)) (rows-pass w (t .clock) (t .tree) zeros (g .rows))
@@ -129,7 +131,7 @@ module _ (w : ℕ) (t : Table) where
 pub record HeadFits (w : ℕ) (t : List ℕ) : Type 0 where
   pub device : getD t 0 0 < w
   pub some : 0 < getD t 2 0
-  pub few : getD t 2 0 ≤ 256
+  pub few : getD t 2 0 ≤ mostRows
   pub long : length t ≡ getD t 2 0 * wide w + wide w
   pub sign : getD t 3 0 ≡ sign w
   pub rest : blank (take (4 + 4 * w) (drop 4 t)) ≡ true
@@ -138,7 +140,7 @@ pub record Checked (w : ℕ) (t : List ℕ) : Type 0 where
   pub head : HeadFits w t
   pub kind : kindWord (drop (wide w) t) ≡ 3
   pub size : sizeWord (drop (wide w) t) ≡ getD t 2 0
-  pub order : ordered (wide w) 16 (drop (wide w) t) ≡ true
+  pub order : ordered (wide w) mostLevels (drop (wide w) t) ≡ true
   pub rules : rowsFit w (tableOf w t .clock) (forestOf (wide w) (drop (wide w) t)) zeros ≡ true
 
 module _ (w : ℕ) (t : List ℕ) where
@@ -167,16 +169,16 @@ module _ (w : ℕ) (t : List ℕ) where
     abbrev raw : Raw
     raw = forestOf (wide w) (drop (wide w) t)
 
-    raw-formed : Formed (wide w) 16 raw
-    raw-formed = ordered-formed (wide w) (omega arith) 16 (drop (wide w) t) (c .order)
+    raw-formed : Formed (wide w) mostLevels raw
+    raw-formed = ordered-formed (wide w) (omega arith) mostLevels (drop (wide w) t) (c .order)
 
     raw-words : wordsOf raw ≡ drop (wide w) t
-    raw-words = ordered-words (wide w) (omega arith) 16 (drop (wide w) t) (c .order)
+    raw-words = ordered-words (wide w) (omega arith) mostLevels (drop (wide w) t) (c .order)
 
     raw-size : size raw ≡ getD t 2 0
     raw-size =
         cancel (wide w) (omega arith) (size raw) (getD t 2 0)
-        (sym (formed-length (wide w) 16 raw raw-formed) ∙ ap length raw-words ∙ length-drop (wide w) t ∙ omega (arith, c .head .long))
+        (sym (formed-length (wide w) mostLevels raw raw-formed) ∙ ap length raw-words ∙ length-drop (wide w) t ∙ omega (arith, c .head .long))
 
     -- a table that passes has as many rows as its head says
     pub checked-size : size (tableOf w t .tree) ≡ getD t 2 0
@@ -187,9 +189,9 @@ module _ (w : ℕ) (t : List ℕ) where
     unfolding tableOf
     checked-good = record {
       device = c .head .device;
-      root = row-root w 16 raw raw-formed (ap kindWord raw-words ∙ c .kind) (ap sizeWord raw-words ∙ c .size ∙ sym raw-size);
+      root = row-root w mostLevels raw raw-formed (ap kindWord raw-words ∙ c .kind) (ap sizeWord raw-words ∙ c .size ∙ sym raw-size);
       few = omega (arith, mapped-size (sheetOf w) (floorOf w) raw, raw-size, c .head .few);
-      deep = formed-levels w 16 raw raw-formed;
+      deep = formed-levels w mostLevels raw raw-formed;
       rows = rows-good w (tableOf w t .clock) raw zeros (c .rules);
     }
 
@@ -199,14 +201,15 @@ module _ (w : ℕ) (t : List ℕ) where
         let e : length (take (4 + 4 * w) (drop 4 t)) ≡ 4 + 4 * w = length-take-le (4 + 4 * w) (drop 4 t) (omega (arith, length-drop 4 t, c .head .long)) in
         let z : wide w ≡ 4 + (4 + 4 * w) = omega arith in
         ap₂ (λ n x. getD t 0 0 ∷ getD t 1 0 ∷ getD t 2 0 ∷ n ∷ x) (sym (c .head .sign))
-        (ap₂ _++_ (ap (λ n. replicate n 0) (sym e) ∙ sym (blank-zeros (take (4 + 4 * w) (drop 4 t)) (c .head .rest))) (ap (λ n. drop n t) z ∙ skip 4 (4 + 4 * w) t) ∙ take-append-drop (4 + 4 * w) (drop 4 t))
+        (ap₂ _++_ (ap (λ n. replicate n 0) (sym e) ∙ sym (blank-zeros (take (4 + 4 * w) (drop 4 t)) (c .head .rest))) (ap (λ n. drop n t) z ∙ skip 4 (4 + 4 * w) t)
+        ∙ take-append-drop (4 + 4 * w) (drop 4 t))
         ∙ sym (four t (omega (arith, c .head .long)))
 
     pub checked-written : written w (tableOf w t) ≡ t
     unfolding written tableOf
     checked-written =
         ap₂ (λ n l. headWords w (tableOf w t .clock) n ++ l) checked-size
-        (ap wordsOf (rows-back w (tableOf w t .clock) 16 raw zeros raw-formed (c .rules)) ∙ raw-words)
+        (ap wordsOf (rows-back w (tableOf w t .clock) mostLevels raw zeros raw-formed (c .rules)) ∙ raw-words)
         ∙ head-back
 
 -- THE CHECK IS EXACT: words pass exactly where they are the written form of a good table

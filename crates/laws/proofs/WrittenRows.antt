@@ -10,7 +10,7 @@ use Rattle.paper.specs.Columns.{Vec, Narrow, vec, part, columns}
 use Rattle.paper.specs.Rules.{Kind, never, live, removed}
 use Rattle.paper.specs.Tree.{end, sheet, folder, mapped, size, levels, Sheet, Tree, newest, least, most}
 use Rattle.paper.specs.Order.{forestOf, wordsOf}
-use Rattle.paper.specs.Words.{wide, kindOf, kindNumber, rowOf, newestAt, leastAt, mostAt, floorOf, sheetOf, treeFrom, sheetWords, folderWords, rowsOf, treeWords}
+use Rattle.paper.specs.Words.{wide, kindOf, kindNumber, rowOf, newestAt, leastAt, mostAt, floorOf, sheetOf, treeFrom, sheetWords, folderWords, rowsOf, treeWords, floorAt}
 use Rattle.laws.proofs.Columns.{length-columns, vec-columns}
 use Rattle.laws.proofs.Forests.{folder-same}
 use Rattle.laws.proofs.FormedRows.{SheetRow, FolderRow, Formed, formed-read, formed-length}
@@ -56,7 +56,7 @@ module _ (w : ℕ) where
 
     pub sheet-rest : drop (newestAt w) (sheetWords w s) ≡ replicate (3 * w) 0
     unfolding sheetWords
-    sheet-rest = skip 8 w (sheetWords w s) ∙ drop-at (columns w (s .floor)) (replicate (3 * w) 0) w (length-columns w (s .floor))
+    sheet-rest = skip floorAt w (sheetWords w s) ∙ drop-at (columns w (s .floor)) (replicate (3 * w) 0) w (length-columns w (s .floor))
 
     pub sheet-read : Narrow w (s .floor) → sheetOf w (sheetWords w s) ≡ s
     sheet-read n = ap₂ (λ r f. record { row = r; floor = f }) sheet-row (sheet-floor n)
@@ -68,11 +68,20 @@ module _ (w : ℕ) where
 
     pub folder-long : length row ≡ wide w
     unfolding folderWords
-    folder-long = omega (arith, length-append (columns w floor) (columns w newest ++ (columns w least ++ columns w most)), length-append (columns w newest) (columns w least ++ columns w most), length-append (columns w least) (columns w most), length-columns w floor, length-columns w newest, length-columns w least, length-columns w most)
+    folder-long = omega (
+      arith,
+      length-append (columns w floor) (columns w newest ++ (columns w least ++ columns w most)),
+      length-append (columns w newest) (columns w least ++ columns w most),
+      length-append (columns w least) (columns w most),
+      length-columns w floor,
+      length-columns w newest,
+      length-columns w least,
+      length-columns w most,
+    )
 
     at-newest : drop (newestAt w) row ≡ columns w newest ++ (columns w least ++ columns w most)
     unfolding folderWords
-    at-newest = skip 8 w row ∙ drop-at (columns w floor) _ w (length-columns w floor)
+    at-newest = skip floorAt w row ∙ drop-at (columns w floor) _ w (length-columns w floor)
 
     at-least : drop (leastAt w) row ≡ columns w least ++ columns w most
     at-least =

@@ -1,15 +1,16 @@
 -- Each return is the first test that fails; past them, the summaries decide.
 use Rattle.layout.specs.FolderSums.{folderBy}
 use Rattle.layout.proofs.RowRules.{folder-summed}
+use Rattle.paper.specs.Widths.{narrowColumns}
 use borrow.Author.Tests.{not-true, not-false}
 use Prim.Native.Nat.{ℕ, _-_}
 use mathlib.Core.Path.{sym, _∙_}
 use borrow.Author.Needs.{needs}
-use Rattle.layout.proofs.narrow_folder_fits.Statement.{statement}
-use Rattle.layout.proofs.narrow_folder_fits.Tie as tie
+use Rattle.layout.proofs.narrow.folder_fits.Statement.{statement}
+use Rattle.layout.proofs.narrow.folder_fits.Tie as tie
 
 abbrev w : ℕ
-w = 8
+w = narrowColumns
 
 returns : tie.Need-returns
 unfolding folderBy
@@ -25,8 +26,8 @@ returns-3 c =
     let b = c .before .before .before in
     folder-summed w (s .clock) (s .r .now) (s .under) (c .before .under .result) (sym (b .before .before .before .is-blank .ensures) ∙ not-false _ (b .before .before .if1 .left)) (sym (b .before .is-own-zero .ensures) ∙ not-false _ (b .if2 .left)) (c .before .under .ensures) (c .before .before .read .ensures) (c .is-summed .ensures)
 
-pub narrow-folder-fits-spec : {M : Type 1} → statement M
-narrow-folder-fits-spec =
+pub folder-fits-spec : {M : Type 1} → statement M
+folder-fits-spec =
     tie.close
     (tie.spec
     (λ c. search needs) (λ c. search needs) (λ c. search needs) (λ c κs. search needs) returns (λ c κs. search needs) returns-2

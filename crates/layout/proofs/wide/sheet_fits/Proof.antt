@@ -2,15 +2,16 @@
 use Rattle.paper.specs.Columns.{vec}
 use Rattle.layout.proofs.RowRules.{not-laid, not-seven, not-own, not-rest, sheet-known}
 use borrow.Author.Tests.{not-true, not-false}
+use Rattle.paper.specs.Widths.{wideColumns}
 use native.Mathlib.Omega.{arith}
 use Prim.Native.Nat.{ℕ, _-_}
 use mathlib.Core.Path.{sym, _∙_}
 use borrow.Author.Needs.{needs}
-use Rattle.layout.proofs.wide_sheet_fits.Statement.{statement}
-use Rattle.layout.proofs.wide_sheet_fits.Tie as tie
+use Rattle.layout.proofs.wide.sheet_fits.Statement.{statement}
+use Rattle.layout.proofs.wide.sheet_fits.Tie as tie
 
 abbrev w : ℕ
-w = 16
+w = wideColumns
 
 returns : tie.Need-returns
 returns c =
@@ -40,8 +41,8 @@ returns-5 c =
     let s = c .before .before .before .before .before .before .before .before .before .before .before .args in
     sheet-known w (s .clock) (vec (s .u .0)) (s .r .now) (c .before .before .before .before .before .before .before .before .before .before .before .pre .0) (sym (c .before .before .before .before .before .before .before .before .before .is-laid .ensures) ∙ not-false _ (c .before .before .before .before .before .before .before .before .if1 .left)) (c .before .before .before .before .before .before .if2 .left) (sym (c .before .before .before .before .before .is-own-zero .ensures) ∙ not-false _ (c .before .before .before .before .if3 .left)) (sym (c .before .before .is-blank .ensures) ∙ not-false _ (c .before .if4 .left)) (c .is-known .ensures)
 
-pub wide-sheet-fits-spec : {M : Type 1} → statement M
-wide-sheet-fits-spec =
+pub sheet-fits-spec : {M : Type 1} → statement M
+sheet-fits-spec =
     tie.close
     (tie.spec
     (λ c κs. omega arith) returns (λ c. search needs) returns-2 (λ c κs. search needs) returns-3 (λ c. search needs) (λ c. search needs)

@@ -14,7 +14,7 @@ use Rattle.paper.specs.declared.Stamp.{Stamp}
 use Rattle.paper.specs.Columns.{Vec, vec, full, covers, alike, part}
 use Rattle.paper.specs.Rules.{never, live, removed}
 use Rattle.paper.specs.Tree.{greatestWith}
-use Rattle.paper.specs.Words.{wide, newestAt, leastAt, mostAt, kindOf, rowOf, floorOf}
+use Rattle.paper.specs.Words.{wide, floorAt, newestAt, leastAt, mostAt, kindOf, rowOf, floorOf}
 use Rattle.paper.specs.Check.{blank, proper, absent, laid, known, sheetFits}
 use Rattle.laws.proofs.Bools.{and-both}
 use Rattle.summary.specs.declared.Summary.{Summary}
@@ -73,9 +73,9 @@ leb-max n a b h = go (leb n b) refl
     go false e = lt-leb n (max a b) (omega (arith, leb-false n b e))
 
 -- a column of a row's floor is one of its words
-pub floor-word : (w : ℕ) (r : List ℕ) (d : ℕ) → d < w → floorOf w r d ≡ getD r (8 + d) 0
+pub floor-word : (w : ℕ) (r : List ℕ) (d : ℕ) → d < w → floorOf w r d ≡ getD r (floorAt + d) 0
 unfolding part
-floor-word w r d h = getD-take w (drop 8 r) d 0 h ∙ getD-drop 8 r d 0
+floor-word w r d h = getD-take w (drop floorAt r) d 0 h ∙ getD-drop floorAt r d 0
 
 -- a row that is laid out as its kind says names columns in its stamp and in its birth
 module _ (w : ℕ) (r : List ℕ) (e : laid w (rowOf r .kind) (rowOf r) ≡ true) where
@@ -98,7 +98,7 @@ module _ (w : ℕ) (c : Clock) (u : Vec) (r : List ℕ) (s : Stamp) where
     pub covers-above : s .count ≤ u (s .device) → covers time s ≡ true
     covers-above l = rw (ne-eqb _ _ other) (le-leb (s .count) (max (u (s .device)) (floorOf w r (s .device))) (omega arith))
 
-    pub covers-floor : s .device < w → u (s .device) < s .count → covers time s ≡ leb (s .count) (getD r (8 + s .device) 0)
+    pub covers-floor : s .device < w → u (s .device) < s .count → covers time s ≡ leb (s .count) (getD r (floorAt + s .device) 0)
     covers-floor d l = rw (ne-eqb _ _ other) (leb-max (s .count) (u (s .device)) (floorOf w r (s .device)) l ∙ ap (leb (s .count)) (floor-word w r (s .device) d))
 
 -- a sheet's tests: each that fails decides; past them all the known time does

@@ -1,9 +1,11 @@
 // Refusal 3 at one row: the rules of the layout and the times for a sheet, and of the layout and the summaries for a folder.
+pub mod narrow;
+pub mod wide;
+
 use paper::Clock;
 use paper::Stamp;
 use summary::Summary;
 use vector::Vector;
-use vector::is_blank;
 use vector::row::Narrow;
 use vector::row::Row;
 use vector::row::Wide;
@@ -13,7 +15,7 @@ ghost use lib.Dec.{eqb};
 ghost use Prim.Native.Nat.{_≤_, _<_};
 ghost use lib.ListN.{length};
 ghost use Rattle.paper.specs.Columns.{vec, full, covers};
-ghost use Rattle.paper.specs.Words.{wide, rowOf, floorOf};
+ghost use Rattle.paper.specs.Words.{wide, floorAt, rowOf, floorOf};
 ghost use Rattle.paper.specs.Widths.{Width};
 ghost use Rattle.paper.specs.Check.{proper, absent, laid, known, sheetFits};
 ghost use Rattle.paper.specs.Devices.{devices};
@@ -41,7 +43,7 @@ fn is_absent(s: Stamp) -> bool
 
 // A row's stamp.
 fn stamp_of(r: &[u32]) -> Stamp
-    requires { ⌜ 8 ≤ length (now r) ⌝ }
+    requires { ⌜ floorAt ≤ length (now r) ⌝ }
     ensures { λ s. ⌜ s ≡ rowOf (now (r .entry)) .stamp ⌝ }
 {
     Stamp::of(r[Row::STAMP], r[Row::STAMP + 1])
@@ -49,7 +51,7 @@ fn stamp_of(r: &[u32]) -> Stamp
 
 // A row's birth.
 fn birth_of(r: &[u32]) -> Stamp
-    requires { ⌜ 8 ≤ length (now r) ⌝ }
+    requires { ⌜ floorAt ≤ length (now r) ⌝ }
     ensures { λ s. ⌜ s ≡ rowOf (now (r .entry)) .birth ⌝ }
 {
     Stamp::of(r[Row::BIRTH], r[Row::BIRTH + 1])
@@ -67,8 +69,8 @@ fn is_unborn(r: &[u32]) -> bool
 }
 
 // Stamp, birth and mark are as the kind of the row says.
-fn is_laid(r: &[u32], columns: usize) -> bool
-    requires { ⌜ 8 ≤ length (now r) ⌝ }
+pub fn is_laid(r: &[u32], columns: usize) -> bool
+    requires { ⌜ floorAt ≤ length (now r) ⌝ }
     ensures { λ b. ⌜ b ≡ laid columns (rowOf (now (r .entry)) .kind) (rowOf (now (r .entry))) ⌝ }
 {
     let kind = r[Row::KIND];
@@ -108,7 +110,7 @@ fn is_covered(r: &[u32], clock: Clock, u: Vector, stamp: Stamp, columns: usize) 
 }
 
 // The stamps of a row that is laid out as its kind says are covered by its known time under the floors u.
-fn is_known(r: &[u32], clock: Clock, u: Vector, columns: usize) -> bool
+pub fn is_known(r: &[u32], clock: Clock, u: Vector, columns: usize) -> bool
     requires { ⌜ (wide columns ≤ length (now r)) × (laid columns (rowOf (now r) .kind) (rowOf (now r)) ≡ true) × (0 < columns) × (columns ≤ devices) ⌝ }
     ensures { λ b. ⌜ b ≡ known (full clock (vec (u .0)) (floorOf columns (now (r .entry)))) (rowOf (now (r .entry)) .kind) (rowOf (now (r .entry))) ⌝ }
 {
@@ -127,7 +129,7 @@ fn is_known(r: &[u32], clock: Clock, u: Vector, columns: usize) -> bool
 }
 
 // The own column of a row's floor is zero.
-fn is_own_zero(r: &[u32], clock: Clock, columns: usize) -> bool
+pub fn is_own_zero(r: &[u32], clock: Clock, columns: usize) -> bool
     requires { ⌜ (wide columns ≤ length (now r)) × (clock .device < columns) ⌝ }
     ensures { λ b. ⌜ b ≡ eqb (floorOf columns (now (r .entry)) (clock .device)) 0 ⌝ }
 {
@@ -142,53 +144,13 @@ pub fn sheet_fits(r: &[u32], clock: Clock, u: Vector, columns: usize) -> bool
     ensures { λ b. ⌜ b ≡ sheetFits columns clock (vec (u .0)) (now (r .entry)) ⌝ }
 {
     if columns == Narrow::COLUMNS {
-        return narrow_sheet_fits(r, clock, u);
+        return narrow::sheet_fits(r, clock, u);
     }
-    wide_sheet_fits(r, clock, u)
-}
-
-// The same twice, word for word, with the width in the text: so the compiler unrolls every loop over columns.
-fn narrow_sheet_fits(r: &[u32], clock: Clock, u: Vector) -> bool
-    requires { ⌜ (length (now r) ≡ wide 8) × (clock .device < 8) ⌝ }
-    ensures { λ b. ⌜ b ≡ sheetFits 8 clock (vec (u .0)) (now (r .entry)) ⌝ }
-{
-    if !is_laid(r, Narrow::COLUMNS) {
-        return false;
-    }
-    if r[Row::SPARE] != 0 {
-        return false;
-    }
-    if !is_own_zero(r, clock, Narrow::COLUMNS) {
-        return false;
-    }
-    if !is_blank(&r[Narrow::NEWEST..Narrow::WIDTH]) {
-        return false;
-    }
-    is_known(r, clock, u, Narrow::COLUMNS)
-}
-
-// With sixteen columns.
-fn wide_sheet_fits(r: &[u32], clock: Clock, u: Vector) -> bool
-    requires { ⌜ (length (now r) ≡ wide 16) × (clock .device < 16) ⌝ }
-    ensures { λ b. ⌜ b ≡ sheetFits 16 clock (vec (u .0)) (now (r .entry)) ⌝ }
-{
-    if !is_laid(r, Wide::COLUMNS) {
-        return false;
-    }
-    if r[Row::SPARE] != 0 {
-        return false;
-    }
-    if !is_own_zero(r, clock, Wide::COLUMNS) {
-        return false;
-    }
-    if !is_blank(&r[Wide::NEWEST..Wide::WIDTH]) {
-        return false;
-    }
-    is_known(r, clock, u, Wide::COLUMNS)
+    wide::sheet_fits(r, clock, u)
 }
 
 // The summaries in a folder's row are these.
-fn is_summed(r: &[u32], own: Summary, columns: usize) -> bool
+pub fn is_summed(r: &[u32], own: Summary, columns: usize) -> bool
     requires { ⌜ (wide columns ≤ length (now r)) × (columns ≤ devices) ⌝ }
     ensures { λ b. ⌜ b ≡ summed columns (now (r .entry)) (vec (own .newest .0)) (vec (own .least .0)) (vec (own .most .0)) ⌝ }
 {
@@ -211,43 +173,7 @@ pub fn folder_fits(r: &[u32], clock: Clock, under: Summary, columns: usize) -> b
     ensures { λ b. ⌜ b ≡ folderBy columns clock (now (r .entry)) (said under) ⌝ }
 {
     if columns == Narrow::COLUMNS {
-        return narrow_folder_fits(r, clock, under);
+        return narrow::folder_fits(r, clock, under);
     }
-    wide_folder_fits(r, clock, under)
-}
-
-// The same twice, word for word, with the width in the text: so the compiler unrolls every loop over columns.
-fn narrow_folder_fits(r: &[u32], clock: Clock, under: Summary) -> bool
-    requires { ⌜ (length (now r) ≡ wide 8) × (clock .device < 8) ⌝ }
-    ensures { λ b. ⌜ b ≡ folderBy 8 clock (now (r .entry)) (said under) ⌝ }
-{
-    if !is_blank(&r[Row::STAMP..Row::FLOOR]) {
-        return false;
-    }
-    if !is_own_zero(r, clock, Narrow::COLUMNS) {
-        return false;
-    }
-    is_summed(
-        r,
-        under.under(Vector::read(r, Row::FLOOR, Narrow::COLUMNS)),
-        Narrow::COLUMNS,
-    )
-}
-
-// With sixteen columns.
-fn wide_folder_fits(r: &[u32], clock: Clock, under: Summary) -> bool
-    requires { ⌜ (length (now r) ≡ wide 16) × (clock .device < 16) ⌝ }
-    ensures { λ b. ⌜ b ≡ folderBy 16 clock (now (r .entry)) (said under) ⌝ }
-{
-    if !is_blank(&r[Row::STAMP..Row::FLOOR]) {
-        return false;
-    }
-    if !is_own_zero(r, clock, Wide::COLUMNS) {
-        return false;
-    }
-    is_summed(
-        r,
-        under.under(Vector::read(r, Row::FLOOR, Wide::COLUMNS)),
-        Wide::COLUMNS,
-    )
+    wide::folder_fits(r, clock, under)
 }

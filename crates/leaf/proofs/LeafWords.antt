@@ -1,6 +1,6 @@
 -- What the leaves' calls come to, on the words of a row.
 use Prim.Native.Nat.{ℕ, _+_, _≤_}
-use mathlib.Core.Path.{_≡_, sym, ap, _∙_}
+use mathlib.Core.Path.{_≡_, sym, ap, subst, _∙_}
 use mathlib.Core.List.{List}
 use mathlib.Core.Bool.{Bool, true, false, _&&_, cond}
 use native.Mathlib.Omega.{arith}
@@ -8,7 +8,7 @@ use lib.ListN.{length, getD, take, drop, set, length-set}
 use borrow.Rule.Slice.PartMut.{putMid}
 use Rattle.paper.specs.declared.Ruling.{Ruling}
 use Rattle.paper.specs.declared.Clock.{Clock}
-use Rattle.paper.specs.Columns.{Vec, covers, covered, alike, full, part, columns}
+use Rattle.paper.specs.Columns.{Vec, covered, alike, full, part, columns}
 use Rattle.paper.specs.Rules.{rule, ruling, numberOf, takes, joins}
 use Rattle.paper.specs.Walk.{raised, ruleAt, ruled}
 use Rattle.paper.specs.Words.{kindOf, rowOf, floorOf, floorAt, newestAt, leastAt, mostAt}
@@ -16,28 +16,36 @@ use Rattle.laws.proofs.Columns.{part-length}
 use Rattle.vector.specs.Places.{put}
 use Rattle.vector.proofs.Places.{put-back, put-same, length-put}
 use Rattle.summary.specs.Sums.{Sums, sumsRow, mended}
-use Rattle.leaf.specs.Leaves.{takenFrom, sheetsOf, floored, ruledRow, overRows, overRow}
-use Rattle.leaf.proofs.RulesAtKinds.{heard}
+use Rattle.leaf.specs.Leaves.{Rows, heard, HeardOf, judged, takenFrom, raisedWhere, SheetDone, floored, ruledRow, overRows, overRow}
 
--- what a sheet's pass says, n, and makes of the target's row, t′
-abbrev pub Passes : ℕ → Clock → Clock → Vec → Vec → List ℕ → List ℕ → ℕ → List ℕ → Type 0
-Passes w a b ua ub s t n t′ = (n ≡ numberOf (ruleAt a b ua ub (sheetsOf w s t))) × (t′ ≡ ruledRow w a b ua (ruleAt a b ua ub (sheetsOf w s t)) s t)
+-- what is said at a width is said at one that equals it
+pub rows-at : {v w : ℕ} {s t : List ℕ} {a b : Clock} → w ≡ v → Rows w s t a b → Rows v s t a b
+rows-at {s = s} {t = t} {a = a} {b = b} e h = subst (λ k. Rows k s t a b) e h
+
+pub sheet-at : {v w n : ℕ} (a b : Clock) (ua ub : Vec) (s t : List ℕ) {t′ : List ℕ} → w ≡ v → SheetDone v a b ua ub s t n t′ → SheetDone w a b ua ub s t n t′
+sheet-at a b ua ub s t e h = rw e h
+
+pub over-at : {v w : ℕ} (a b : Clock) (ua ub : Vec) (s t : List ℕ) {r : Bool} → w ≡ v → r ≡ overRows v a b ua ub s t → r ≡ overRows w a b ua ub s t
+over-at a b ua ub s t e h = rw e h
+
+pub folder-at : {v w : ℕ} (a b : Clock) (ua : Vec) (s t : List ℕ) {t′ : List ℕ} → w ≡ v → t′ ≡ overRow v a b ua s t → t′ ≡ overRow w a b ua s t
+folder-at a b ua s t e h = rw e h
 
 -- the rules' four answers are asked of the stamps and births in two rows
-pub judged : (s t : List ℕ) (ka kb : Vec) {p q r u : Bool} {c : Ruling} → p ≡ covers kb (rowOf s .stamp) → q ≡ covers kb (rowOf s .birth) → r ≡ covers ka (rowOf t .stamp) → u ≡ covers ka (rowOf t .birth)
-    → c ≡ rule (kindOf (getD s 0 0)) (kindOf (getD t 0 0)) (heard p q r u) → c ≡ ruling covers (record { row = rowOf s; known = ka }) (record { row = rowOf t; known = kb })
+pub judged-by : (s t : List ℕ) (ka kb : Vec) (p q r u : Bool) {c : Ruling} → HeardOf kb s p q → HeardOf ka t r u
+    → c ≡ rule (kindOf (getD s 0 0)) (kindOf (getD t 0 0)) (heard p q r u) → c ≡ judged s t ka kb
 unfolding ruling rowOf
-judged s t ka kb p q r u e = e ∙ rw (p, q, r, u)
+judged-by s t ka kb p q r u h k e = e ∙ rw (h .0, h .1, k .0, k .1)
 
 -- words 2 to 7 come back from their loan as those of s
-pub took : (s t e : List ℕ) → 8 ≤ length s → e ≡ take 6 (drop 2 s) → putMid 2 6 (set t 0 (getD s 0 0)) e ≡ takenFrom s t
+pub took : (s t e : List ℕ) → floorAt ≤ length s → e ≡ take 6 (drop 2 s) → putMid 2 6 (set t 0 (getD s 0 0)) e ≡ takenFrom s t
 unfolding takenFrom
 took s t e h q =
     put-back 2 6 (set t 0 (getD s 0 0)) e (ap length q ∙ part-length 6 2 s (omega arith))
     ∙ ap (λ (l : List ℕ). put 2 l (set t 0 (getD s 0 0))) q
 
 -- the length stays
-pub length-taken : (s t : List ℕ) → 8 ≤ length s → 8 ≤ length t → length (takenFrom s t) ≡ length t
+pub length-taken : (s t : List ℕ) → floorAt ≤ length s → floorAt ≤ length t → length (takenFrom s t) ≡ length t
 unfolding takenFrom
 length-taken s t h l =
     length-put 2 (take 6 (drop 2 s)) (set t 0 (getD s 0 0))
@@ -46,26 +54,26 @@ length-taken s t h l =
 
 module _ (w : ℕ) where
   -- a floor that is written where the answer is yes, and left where it is no
-  pub floor-yes : (f : Vec) (so : Bool) (g : Vec) (t e : List ℕ) → so ≡ true → e ≡ put floorAt (columns w f) t → e ≡ floored w (cond so f g) t
+  pub floor-yes : (so : Bool) (c : Clock) (v : Vec) (t : List ℕ) {f g : Vec} {t′ : List ℕ} → so ≡ true → f ≡ floorOf w t → g ≡ raised c f v → t′ ≡ put floorAt (columns w g) t
+      → t′ ≡ raisedWhere w so c v t
   unfolding floored
-  floor-yes f so g t e y q = q ∙ ap (λ (b : Bool). put floorAt (columns w (cond b f g)) t) (sym y)
+  floor-yes so c v t y e f q = q ∙ rw (f, e, y)
 
-  pub floor-no : (f : Vec) (so : Bool) (t : List ℕ) → so ≡ false → floorAt + w ≤ length t → t ≡ floored w (cond so f (floorOf w t)) t
+  pub floor-no : (so : Bool) (c : Clock) (v : Vec) (t : List ℕ) → so ≡ false → floorAt + w ≤ length t → t ≡ raisedWhere w so c v t
   unfolding floored
-  floor-no f so t y h =
-      sym (put-same w floorAt t h) ∙ ap (λ (b : Bool). put floorAt (columns w (cond b f (floorOf w t))) t) (sym y)
+  floor-no so c v t y h = rw y (sym (put-same w floorAt t h))
 
   module _ (a b : Clock) (ua ub : Vec) (s t : List ℕ) where
     -- a sheet: the known times, then the ruling, then the floor, then what stands there
     pub sheet-passed : {ka kb : Vec} {r : Ruling} {n : ℕ} {j k : Bool} {t₁ t₂ : List ℕ} → ka ≡ full a ua (floorOf w s) → kb ≡ full b ub (floorOf w t)
-        → r ≡ ruling covers (record { row = rowOf s; known = ka }) (record { row = rowOf t; known = kb }) → n ≡ numberOf r → j ≡ joins r → k ≡ takes r
-        → t₁ ≡ floored w (cond j (raised b (floorOf w t) ka) (floorOf w t)) t → t₂ ≡ cond k (takenFrom s t₁) t₁
-        → (n ≡ numberOf (ruleAt a b ua ub (sheetsOf w s t))) × (t₂ ≡ ruledRow w a b ua (ruleAt a b ua ub (sheetsOf w s t)) s t)
+        → r ≡ judged s t ka kb → n ≡ numberOf r → j ≡ joins r → k ≡ takes r → t₁ ≡ raisedWhere w j b ka t → t₂ ≡ cond k (takenFrom s t₁) t₁
+        → SheetDone w a b ua ub s t n t₂
     unfolding ruleAt ruledRow ruled
     sheet-passed e f q m g h p z = (m ∙ rw (q, e, f), z ∙ rw (h, p, g, q, e, f))
 
     -- a folder: not passed over for A's newest, else for A's level
-    pub over-false : {n l : Vec} {r : Bool} → n ≡ part w (newestAt w) s → l ≡ full b ub (part w (leastAt w) t) → r ≡ covered w n l → r ≡ false → false ≡ overRows w a b ua ub s t
+    pub over-false : {n l : Vec} {r : Bool} → n ≡ part w (newestAt w) s → l ≡ full b ub (part w (leastAt w) t) → r ≡ covered w n l → r ≡ false
+        → false ≡ overRows w a b ua ub s t
     unfolding overRows
     over-false e f q z = sym (ap (λ (x : Bool). x && alike w (full a ua (part w (leastAt w) s)) (full a ua (part w (mostAt w) s))) (rw (f, e) at (sym q ∙ z)))
 

@@ -8,11 +8,11 @@ use lib.Dec.{eqb}
 use lib.ListN.{length, getD, take, drop, set}
 use Rattle.paper.specs.declared.Ruling.{Ruling}
 use Rattle.paper.specs.declared.Clock.{Clock}
-use Rattle.paper.specs.Columns.{Vec, full, covered, alike, part, columns}
-use Rattle.paper.specs.Rules.{takes}
+use Rattle.paper.specs.Columns.{Vec, covers, full, covered, alike, part, columns}
+use Rattle.paper.specs.Rules.{Heard, ruling, numberOf, takes}
 use Rattle.paper.specs.Tree.{Sheet}
-use Rattle.paper.specs.Walk.{Two, raised, ruled}
-use Rattle.paper.specs.Words.{wide, floorAt, newestAt, leastAt, mostAt, floorOf, sheetOf}
+use Rattle.paper.specs.Walk.{Two, raised, ruleAt, ruled}
+use Rattle.paper.specs.Words.{wide, rowOf, floorAt, newestAt, leastAt, mostAt, floorOf, sheetOf}
 use Rattle.paper.specs.Devices.{devices}
 use Rattle.vector.specs.Places.{put}
 use Rattle.summary.specs.Sums.{sumsRow, mended}
@@ -28,6 +28,18 @@ pub record Rows (w : ℕ) (s t : List ℕ) (a b : Clock) : Type 0 where
 -- t with what stands at s: words 0 and 2 to 7
 unfoldable pub takenFrom : List ℕ → List ℕ → List ℕ
 takenFrom s t = put 2 (take 6 (drop 2 s)) (set t 0 (getD s 0 0))
+
+-- the rules' four answers: has B heard of A's stamp and birth, and A of B's?
+abbrev pub heard : (stampA birthA stampB birthB : Bool) → Heard
+heard p q r s = record { stampA = p; birthA = q; stampB = r; birthB = s }
+
+-- what a side with the known time v has heard of the other's row
+abbrev pub HeardOf : Vec → List ℕ → (stamp birth : Bool) → Type 0
+HeardOf v r stamp birth = (stamp ≡ covers v (rowOf r .stamp)) × (birth ≡ covers v (rowOf r .birth))
+
+-- what the rules say of two rows of a sheet, with the known time on either side
+abbrev pub judged : List ℕ → List ℕ → Vec → Vec → Ruling
+judged s t ka kb = ruling covers (record { row = rowOf s; known = ka }) (record { row = rowOf t; known = kb })
 
 -- the answer beneath a passed-over folder, by a row's kind
 abbrev pub silentKind : ℕ → ℕ
@@ -47,6 +59,10 @@ module _ (w : ℕ) where
   unfoldable pub floored : Vec → List ℕ → List ℕ
   floored f t = put floorAt (columns w f) t
 
+  -- t with its floor raised by v, where `so`
+  abbrev pub raisedWhere : Bool → Clock → Vec → List ℕ → List ℕ
+  raisedWhere so c v t = floored (cond so (raised c (floorOf w t) v) (floorOf w t)) t
+
   -- a is the source's clock and b the target's, ua and ub the floors above
   module _ (a b : Clock) where
     -- a sheet's row after the ruling r
@@ -54,6 +70,10 @@ module _ (w : ℕ) where
     ruledRow ua r s t =
         let t′ = floored (ruled a b ua r (sheetsOf s t) .floor) t in
         cond (takes r) (takenFrom s t′) t′
+
+    -- what is promised of a sheet's row: the number n of its ruling, and the target's row t′
+    abbrev pub SheetDone : Vec → Vec → List ℕ → List ℕ → ℕ → List ℕ → Type 0
+    SheetDone ua ub s t n t′ = let r = ruleAt a b ua ub (sheetsOf s t) in (n ≡ numberOf r) × (t′ ≡ ruledRow ua r s t)
 
     -- is a folder passed over, by the summaries in the two rows?
     unfoldable pub overRows : Vec → Vec → List ℕ → List ℕ → Bool
@@ -67,7 +87,7 @@ module _ (w : ℕ) where
         let t′ = floored (raised b (floorOf w t) (full a ua (part w (leastAt w) s))) t in
         mended w (sumsRow w t′) t′
 
--- what is promised of the row of a folder that is passed over, in a part with rows of n words
-pub record OverDone (w n : ℕ) (a b : Clock) (ua : Vec) (s t t′ answers′ : List ℕ) (places : ℕ) : Type 0 where
-  pub answers : answers′ ≡ columns places (silentAt n s)
+-- what is promised of the row of a folder that is passed over
+pub record OverDone (w : ℕ) (a b : Clock) (ua : Vec) (s t t′ list list′ : List ℕ) : Type 0 where
+  pub answers : list′ ≡ columns (length list) (silentAt (wide w) s)
   pub row : t′ ≡ overRow w a b ua s t

@@ -1,10 +1,8 @@
 // The row of a folder.
-use crate::full::full_at;
+use crate::narrow;
 use crate::silence::silence;
-use crate::single::narrow_raise_floor;
-use crate::single::wide_raise_floor;
+use crate::wide;
 use paper::Clock;
-use summary::Summary;
 use vector::Vector;
 use vector::row::Narrow;
 use vector::row::Row;
@@ -32,39 +30,9 @@ pub fn may_pass_over(
     ensures { λ r. ⌜ r ≡ overRows columns a b (vec (ua .0)) (vec (ub .0)) (now (s .entry)) (now (t .entry)) ⌝ }
 {
     if columns == Narrow::COLUMNS {
-        return narrow_may_pass_over(s, t, a, b, ua, ub);
+        return narrow::may_pass_over(s, t, a, b, ua, ub);
     }
-    wide_may_pass_over(s, t, a, b, ua, ub)
-}
-
-// The same twice, word for word, with the width in the text: so the compiler unrolls every loop over columns.
-fn narrow_may_pass_over(s: &[u32], t: &[u32], a: Clock, b: Clock, ua: Vector, ub: Vector) -> bool
-    requires { ⌜ Rows 8 (now s) (now t) a b ⌝ }
-    ensures { λ r. ⌜ r ≡ overRows 8 a b (vec (ua .0)) (vec (ub .0)) (now (s .entry)) (now (t .entry)) ⌝ }
-{
-    let newest = Vector::read(s, Narrow::NEWEST, Narrow::COLUMNS);
-    let least_b = full_at(t, Narrow::LEAST, ub, b, Narrow::COLUMNS);
-    if least_b.covers(newest, Narrow::COLUMNS) {
-        let least = full_at(s, Narrow::LEAST, ua, a, Narrow::COLUMNS);
-        let most = full_at(s, Narrow::MOST, ua, a, Narrow::COLUMNS);
-        return least.same(most, Narrow::COLUMNS);
-    }
-    false
-}
-
-// With sixteen columns.
-fn wide_may_pass_over(s: &[u32], t: &[u32], a: Clock, b: Clock, ua: Vector, ub: Vector) -> bool
-    requires { ⌜ Rows 16 (now s) (now t) a b ⌝ }
-    ensures { λ r. ⌜ r ≡ overRows 16 a b (vec (ua .0)) (vec (ub .0)) (now (s .entry)) (now (t .entry)) ⌝ }
-{
-    let newest = Vector::read(s, Wide::NEWEST, Wide::COLUMNS);
-    let least_b = full_at(t, Wide::LEAST, ub, b, Wide::COLUMNS);
-    if least_b.covers(newest, Wide::COLUMNS) {
-        let least = full_at(s, Wide::LEAST, ua, a, Wide::COLUMNS);
-        let most = full_at(s, Wide::MOST, ua, a, Wide::COLUMNS);
-        return least.same(most, Wide::COLUMNS);
-    }
-    false
+    wide::may_pass_over(s, t, a, b, ua, ub)
 }
 
 // The row of a folder that is passed over: its floor raised, and its summaries put right by those in the row.
@@ -74,32 +42,10 @@ pub fn raise_folder(s: &[u32], t: &mut [u32], a: Clock, b: Clock, ua: Vector, co
     ensures { λ _. ⌜ now (t .exit) ≡ overRow columns a b (vec (ua .0)) (now (s .entry)) (now (t .entry)) ⌝ }
 {
     if columns == Narrow::COLUMNS {
-        narrow_raise_folder(s, t, a, b, ua);
+        narrow::raise_folder(s, t, a, b, ua);
         return;
     }
-    wide_raise_folder(s, t, a, b, ua);
-}
-
-// The same twice, word for word, with the width in the text.
-fn narrow_raise_folder(s: &[u32], t: &mut [u32], a: Clock, b: Clock, ua: Vector)
-    requires { ⌜ Rows 8 (now s) (now t) a b ⌝ }
-    ensures { λ _. ⌜ now (t .exit) ≡ overRow 8 a b (vec (ua .0)) (now (s .entry)) (now (t .entry)) ⌝ }
-{
-    let least = full_at(s, Narrow::LEAST, ua, a, Narrow::COLUMNS);
-    narrow_raise_floor(true, t, b, least);
-    let rows = Summary::of_folder(t, Narrow::COLUMNS);
-    rows.mend(t, Narrow::COLUMNS);
-}
-
-// With sixteen columns.
-fn wide_raise_folder(s: &[u32], t: &mut [u32], a: Clock, b: Clock, ua: Vector)
-    requires { ⌜ Rows 16 (now s) (now t) a b ⌝ }
-    ensures { λ _. ⌜ now (t .exit) ≡ overRow 16 a b (vec (ua .0)) (now (s .entry)) (now (t .entry)) ⌝ }
-{
-    let least = full_at(s, Wide::LEAST, ua, a, Wide::COLUMNS);
-    wide_raise_floor(true, t, b, least);
-    let rows = Summary::of_folder(t, Wide::COLUMNS);
-    rows.mend(t, Wide::COLUMNS);
+    wide::raise_folder(s, t, a, b, ua);
 }
 
 // A folder that is passed over, with the answers for it and for all beneath it.
@@ -113,7 +59,7 @@ pub fn over_row(
     columns: usize,
 )
     requires { ⌜ Rows columns (now s) (now t) a b × (length (now s) ≡ length (now answers) * wide columns) × Width columns ⌝ }
-    ensures { λ _. ⌜ OverDone columns (wide columns) a b (vec (ua .0)) (now (s .entry)) (now (t .entry)) (now (t .exit)) (now (answers .exit)) (length (now (answers .entry))) ⌝ }
+    ensures { λ _. ⌜ OverDone columns a b (vec (ua .0)) (now (s .entry)) (now (t .entry)) (now (t .exit)) (now (answers .entry)) (now (answers .exit)) ⌝ }
 {
     silence(s, answers, Row::FLOOR + 4 * columns);
     raise_folder(s, t, a, b, ua, columns);

@@ -1,4 +1,6 @@
 // What a row's vectors come to under the floors above.
+use crate::narrow;
+use crate::wide;
 use paper::Clock;
 use vector::Vector;
 use vector::row::Narrow;
@@ -28,23 +30,7 @@ pub fn floor_of(row: &[u32], columns: usize) -> Vector
     ensures { λ r. ⌜ vec (r .0) ≡ floorOf columns (now (row .entry)) ⌝ }
 {
     if columns == Narrow::COLUMNS {
-        return narrow_floor(row);
+        return narrow::floor_of(row);
     }
-    wide_floor(row)
-}
-
-// The same twice, with the width in the text.
-fn narrow_floor(row: &[u32]) -> Vector
-    requires { ⌜ wide 8 ≤ length (now row) ⌝ }
-    ensures { λ r. ⌜ vec (r .0) ≡ floorOf 8 (now (row .entry)) ⌝ }
-{
-    Vector::read(row, Row::FLOOR, Narrow::COLUMNS)
-}
-
-// With sixteen columns.
-fn wide_floor(row: &[u32]) -> Vector
-    requires { ⌜ wide 16 ≤ length (now row) ⌝ }
-    ensures { λ r. ⌜ vec (r .0) ≡ floorOf 16 (now (row .entry)) ⌝ }
-{
-    Vector::read(row, Row::FLOOR, Wide::COLUMNS)
+    wide::floor_of(row)
 }

@@ -9,7 +9,7 @@ use Rattle.paper.specs.Columns.{Vec, greatest}
 use Rattle.paper.specs.Tree.{end, folder, size}
 use Rattle.paper.specs.Walk.{Two, Pair}
 use Rattle.paper.specs.Order.{kindWord}
-use Rattle.paper.specs.Words.{wide, floorOf}
+use Rattle.paper.specs.Words.{wide, floorAt, floorOf}
 use Rattle.leaf.specs.Leaves.{Rows}
 use Rattle.walk.specs.Parts.{Fit, Parts, RowParts, Passed}
 use Rattle.vector.proofs.Parts.{tail-part}
@@ -17,6 +17,7 @@ use Rattle.walk.proofs.PartsCut.{below, single-size, fit-long}
 use Rattle.walk.proofs.SiblingsWalked.{looked-size}
 use Rattle.walk.proofs.RowsWalked.{fit-below}
 use native.Mathlib.Nat.{mul-le-mul-right}
+use Rattle.paper.specs.Devices.{devices}
 use Rattle.laws.proofs.Columns.{part-narrow}
 use Rattle.laws.proofs.FormedRows.{cancel}
 
@@ -34,7 +35,7 @@ children-size y k = omega arith
 
 module _ (w : ℕ) {a b : Clock} {ua ub : Vec} {s t : List ℕ} {n : ℕ} where
   -- from what the walk of a row takes for granted
-  pub row-at : RowParts w a b ua ub s t n → w ≤ 16 → RowAt w a b s t n
+  pub row-at : RowParts w a b ua ub s t n → w ≤ devices → RowAt w a b s t n
   row-at p few =
       let q = p .parts in
       let l = fit-long w a b ua ub (q .pair) (q .fit) in
@@ -65,7 +66,7 @@ below-parts w {a} {b} {ua} {ub} s t o v p h ra rb ea eb =
     let f = below w a b ua ub (q .pair) (p .single) (q .fit) h in
     let e : length (take (length (set o 0 v) - 1) (drop 1 (set o 0 v))) ≡ length o - 1 = ap length (tail-part 1 (set o 0 v)) ∙ length-drop 1 (set o 0 v) ∙ ap (λ (k : ℕ). k - 1) (length-set o 0 v) in
     record {
-      narrow = λ j k. ap (λ x. x j) (ea ∙ ap (greatest ua) ra) ∙ omega (arith, nu j k, part-narrow w 8 s j k);
+      narrow = λ j k. ap (λ x. x j) (ea ∙ ap (greatest ua) ra) ∙ omega (arith, nu j k, part-narrow w floorAt s j k);
       deviceA = q .deviceA;
       deviceB = q .deviceB;
       pair = f .children;

@@ -111,16 +111,16 @@ module _ (w : ℕ) (a b : Clock) (ua ub : Vec) where
           ∙ silent-mapped (λ (x : Two Sheet). x .a) (λ (z : Two Vec). z .a) (folder y k end)
 
       -- passed over
-      over-folder : (t′ o′ : List ℕ) (places : ℕ) → y .b (b .device) ≡ 0 → overRows w a b ua ub rowA rowB ≡ true
-          → size (folder y k end) ≡ places → OverDone w (wide w) a b ua rowA rowB t′ o′ places → Passed w a b (folder y k end) ua ub t′ o′ 1
-      over-folder t′ o′ places own e n d =
+      over-folder : (t′ l o′ : List ℕ) → y .b (b .device) ≡ 0 → overRows w a b ua ub rowA rowB ≡ true
+          → size (folder y k end) ≡ length l → OverDone w a b ua rowA rowB t′ l o′ → Passed w a b (folder y k end) ua ub t′ o′ 1
+      over-folder t′ l o′ own e n d =
           let o = over-is true e in
           record {
             words = d .row
                 ∙ over-step w a b ua ub y (left k) (right k) (narrow-row w (y .a) (left k) na fa) (narrow-row w (y .b) (right k) nb fb) (treeWords w (left k)) (treeWords w (right k)) da db nu own
                 ∙ sym (folder-words lifted (right k))
                 ∙ ap (treeWords w) (sym (walk-folder true o));
-            answers = d .answers ∙ silent-folder places n ∙ sym (answers-folder true o);
+            answers = d .answers ∙ silent-folder (length l) n ∙ sym (answers-folder true o);
             looked = sym (looked-folder true o);
           }
 
@@ -155,16 +155,15 @@ module _ (w : ℕ) (a b : Clock) (ua ub : Vec) where
       fineB : Fine w (right (f .children))
       fineB = good-fine w b (omega arith) (right (f .children)) (greatest ub (f .floors .b)) (f .fit .goodB)
 
-      over-of : (t′ o′ : List ℕ) (places : ℕ) → overRows w a b ua ub s t ≡ true → size p ≡ places
-          → OverDone w (wide w) a b ua s t t′ o′ places → Passed w a b p ua ub t′ o′ 1
-      over-of t′ o′ places e n d =
+      over-of : (t′ l o′ : List ℕ) → overRows w a b ua ub s t ≡ true → size p ≡ length l → OverDone w a b ua s t t′ l o′ → Passed w a b p ua ub t′ o′ 1
+      over-of t′ l o′ e n d =
           let y = f .floors in
           let k = f .children in
           subst (λ (z : Pair). Passed w a b z ua ub t′ o′ 1) (sym (f .whole))
-          (over-folder y k (f .goodA .narrow) (f .goodB .narrow) fineA fineB t′ o′ places (f .goodB .own)
+          (over-folder y k (f .goodA .narrow) (f .goodB .narrow) fineA fineB t′ l o′ (f .goodB .own)
           (sym (ap₂ (overRows w a b ua ub) (f .source) (f .target)) ∙ e)
           (ap size (sym (f .whole)) ∙ n)
-          (record { answers = d .answers ∙ ap (λ (x : List ℕ). columns places (silentAt (wide w) x)) (f .source); row = d .row ∙ ap₂ (overRow w a b ua) (f .source) (f .target) }))
+          (record { answers = d .answers ∙ ap (λ (x : List ℕ). columns (length l) (silentAt (wide w) x)) (f .source); row = d .row ∙ ap₂ (overRow w a b ua) (f .source) (f .target) }))
 
       -- the floors below a folder, as its rows say
       floor-a : floorOf w s ≡ f .floors .a
@@ -207,13 +206,13 @@ module _ (w : ℕ) (a b : Clock) (ua ub : Vec) where
             (m ∙ ap₂ (λ (x z : List ℕ). mended w (stored w (forestOf (wide w) x)) z) beneath-back back)))
 
     -- a folder that the test passes over
-    pub over-passed : (p : Pair) {s t : List ℕ} {r : Bool} (t′ o′ : List ℕ) (places : ℕ) → Single p → Fit w a b ua ub p s t → kindWord s ≡ 3 → r ≡ overRows w a b ua ub s t → r ≡ true → size p ≡ places
-        → OverDone w (wide w) a b ua s t t′ o′ places → Passed w a b p ua ub t′ o′ 1
-    over-passed p t′ o′ places x f h r e n d = over-of p (below w a b ua ub p x f h) t′ o′ places (sym r ∙ e) n d
+    pub over-passed : (p : Pair) {s t : List ℕ} {r : Bool} (t′ l o′ : List ℕ) → Single p → Fit w a b ua ub p s t → kindWord s ≡ 3 → r ≡ overRows w a b ua ub s t → r ≡ true
+        → size p ≡ length l → OverDone w a b ua s t t′ l o′ → Passed w a b p ua ub t′ o′ 1
+    over-passed p t′ l o′ x f h r e n d = over-of p (below w a b ua ub p x f h) t′ l o′ (sym r ∙ e) n d
 
     -- a folder that the test does not pass over
-    pub walked-passed : (p : Pair) {s t : List ℕ} {r : Bool} {ga gb va vb : Vec} (e o o₁ t′ : List ℕ) (l : ℕ) → Single p → Fit w a b ua ub p s t → kindWord s ≡ 3 → r ≡ overRows w a b ua ub s t → r ≡ false → 1 ≤ length o
-        → ga ≡ floorOf w s → gb ≡ floorOf w t → va ≡ greatest ua ga → vb ≡ greatest ub gb
+    pub walked-passed : (p : Pair) {s t : List ℕ} {r : Bool} {ga gb va vb : Vec} (e o o₁ t′ : List ℕ) (l : ℕ) → Single p → Fit w a b ua ub p s t → kindWord s ≡ 3
+        → r ≡ overRows w a b ua ub s t → r ≡ false → 1 ≤ length o → ga ≡ floorOf w s → gb ≡ floorOf w t → va ≡ greatest ua ga → vb ≡ greatest ub gb
         → ((q : Pair) → Fit w a b va vb q (take (length s - wide w) (drop (wide w) s)) (take (length t - wide w) (drop (wide w) t)) → Passed w a b q va vb e o₁ l)
         → t′ ≡ mended w (stored w (forestOf (wide w) (drop (wide w) (putMid (wide w) (length t - wide w) t e)))) (putMid (wide w) (length t - wide w) t e)
         → Passed w a b p ua ub t′ (putMid 1 (length (set o 0 4) - 1) (set o 0 4) o₁) (l + 1)

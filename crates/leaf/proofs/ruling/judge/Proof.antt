@@ -1,18 +1,12 @@
--- `judge` meets its contract: what either side has heard of the other's row, and the rule that fits.
+-- What either side has heard of the other's row, and the rule that fits.
 use borrow.Author.Needs.{needs}
-use Rattle.leaf.proofs.LeafWords.{judged}
-use Rattle.paper.specs.Columns.{vec}
+use Rattle.leaf.proofs.LeafWords.{judged-by}
 use Rattle.leaf.proofs.ruling.judge.Statement.{statement}
 use Rattle.leaf.proofs.ruling.judge.Tie as tie
-
-returns : tie.Need-returns
-returns c =
-    let s : tie.Start = search in
-    let q = s .args in
-    judged (q .s .now) (q .t .now) (vec (q .ka .0)) (vec (q .kb .0)) (c .before .before .before .before .hears .ensures .0) (c .before .before .before .before .hears .ensures .1) (c .before .before .before .hears2 .ensures .0) (c .before .before .before .hears2 .ensures .1) (c .decide .ensures)
 
 pub judge-spec : {M : Type 1} → statement M
 judge-spec =
     tie.close
     (tie.spec
-    (λ c κs. search needs) (λ c κs. search needs) (λ c. search needs) (λ c. search needs) (λ c κs. search needs) returns)
+    (λ c κs. search needs) (λ c κs. search needs) (λ c. search needs) (λ c. search needs) (λ c κs. search needs)
+    (λ c. let h = c .before .before .before in judged-by _ _ _ _ _ _ _ _ (h .before .hears .ensures) (h .hears2 .ensures) (c .decide .ensures)))

@@ -1,24 +1,29 @@
 -- The rows of a plan, cut where the plan is cut.
-use Prim.Native.Nat.{ℕ, zero, suc, _+_, _-_, _*_, _≤_, _<_}
+use Prim.Native.Nat.{ℕ, zero, suc, _+_, _-_, _*_, _≤_, _<_, max}
 use mathlib.Core.Path.{_≡_, refl, sym, ap, ap₂, _∙_}
 use mathlib.Core.Bool.{Bool, true, false, _&&_, _||_}
-use mathlib.Core.List.{List, [], _∷_, _++_, append-nil}
+use mathlib.Core.List.{List, [], _∷_, _++_, append-nil, append-assoc}
 use native.Mathlib.Omega.{arith}
-use native.Mathlib.Nat.{suc-mul, zero-mul, mul-le-mul-right}
+use native.Mathlib.Nat.{suc-mul, zero-mul, add-mul, mul-le-mul-right}
 use lib.Dec.{eqb, leb, ltb}
 use borrow.Author.Tests.{lt-ltb, le-leb, leb-true, leb-false, lt-leb, eq-eqb, ne-eqb}
-use lib.ListN.{length, getD, take, drop, replicate, length-append, length-drop, drop-of-length-le}
-use lib.Seq.{take-at, take-append-add, drop-append-add}
-use borrow.Rule.Slice.PartMut.{putMid}
-use Rattle.vector.proofs.Parts.{tail-length}
+use lib.ListN.{length, getD, take, drop, replicate, length-append, length-drop}
+use lib.Seq.{take-append-add, drop-append-add, drop-drop, getD-drop, take-all}
+use borrow.Rule.Slice.PartMut.{putMid, same-len-mid, mid-len}
 use Rattle.paper.specs.Order.{kindWord, sizeWord, rowFits, ordered}
-use Rattle.paper.specs.Words.{wide}
-use Rattle.paper.specs.Columns.{zeros, columns}
+use Rattle.paper.specs.Words.{wide, headWords}
 use Rattle.paper.specs.Check.{orderFits}
 use Rattle.paper.specs.Calls.{planned}
 use Rattle.laws.proofs.BlankWords.{length-zeros}
 use Rattle.laws.proofs.Order.{ordered-step, nil-order}
-use Rattle.plan.specs.PlannedRows.{planSize, plannedRow}
+use Rattle.paper.specs.Devices.{devices}
+use Rattle.vector.proofs.Parts.{words-small}
+use Rattle.table.proofs.RowsWritten.{head-length, head-words, row-words}
+use Rattle.plan.specs.PlannedRows.{plannedRow, plannedTable}
+
+-- the size of the row that a number gives
+abbrev planSize : ℕ → ℕ
+planSize k = max k 1
 
 module _ (w : ℕ) where
   abbrev n : ℕ
@@ -67,20 +72,10 @@ module _ (w : ℕ) where
       ∙ ap (λ l. plannedRow w k ++ l) (planned-take i p) ∙ sym (planned-cons k (take i p))
 
   -- the first row of a plan's rows
-  pub first-size : (k : ℕ) (p : List ℕ) → sizeWord (planned w (k ∷ p)) ≡ planSize k
-  unfolding planned planSize
+  first-size : (k : ℕ) (p : List ℕ) → sizeWord (planned w (k ∷ p)) ≡ planSize k
+  unfolding planned
   first-size zero p = refl
-  first-size (suc k) p = refl
-
-  size-some : (k : ℕ) → 0 < planSize k
-  unfolding planSize
-  size-some zero = omega arith
-  size-some (suc k) = omega arith
-
-  pub some-size : (k : ℕ) → 0 < k → planSize k ≡ k
-  unfolding planSize
-  some-size zero h = absurd (omega arith)
-  some-size (suc k) h = refl
+  first-size (suc k) p = omega arith
 
   kind-or-one : (k : ℕ) (p : List ℕ) → (leb (kindWord (planned w (k ∷ p))) 3 ≡ true) × ((eqb (kindWord (planned w (k ∷ p))) 3 || eqb (sizeWord (planned w (k ∷ p))) 1) ≡ true)
   unfolding planned
@@ -91,7 +86,7 @@ module _ (w : ℕ) where
   unfolding rowFits
   fits-planned lv k p =
       let q = kind-or-one k p in
-      rw (q .0, lt-ltb 0 (sizeWord (planned w (k ∷ p))) (omega (arith, first-size k p, size-some k)), q .1)
+      rw (q .0, lt-ltb 0 (sizeWord (planned w (k ∷ p))) (omega (arith, first-size k p)), q .1)
       (ap (λ b. ltb 0 lv && b) (ap₂ (λ x y. leb (x * n) y) (first-size k p) (planned-length (k ∷ p)) ∙ same (planSize k) (suc (length p))))
     where
       same : (a b : ℕ) → leb (a * n) (b * n) ≡ leb a b
@@ -109,30 +104,53 @@ module _ (w : ℕ) where
   order-planned lv k p =
       let t = planned w (k ∷ p) in
       let s = first-size k p in
-      let g = size-some k in
       let o : n ≡ 1 * n = omega arith in
-      let z : planSize k * n - n ≡ (planSize k - 1) * n = omega (arith, ap (λ x. x * n) (one g), suc-mul (planSize k - 1) n) in
+      let z : planSize k * n - n ≡ (planSize k - 1) * n = omega (arith, ap (λ x. x * n) one, suc-mul (planSize k - 1) n) in
       ordered-step n (omega arith) lv t (omega (arith, planned-length (k ∷ p), suc-mul (length p) n))
       ∙ ap₂ _&&_ (fits-planned lv k p)
       (ap₂ (λ x y. ordered n (lv - 1) x && ordered n lv y)
       (ap₂ (λ x y. take (x * n - n) y) s (ap (λ x. drop x t) o ∙ planned-drop 1 (k ∷ p)) ∙ ap (λ x. take x (planned w p)) z ∙ planned-take (planSize k - 1) p)
       (ap (λ x. drop (x * n) t) s ∙ planned-drop (planSize k) (k ∷ p)))
     where
-      one : {m : ℕ} → 0 < m → m ≡ suc (m - 1)
-      one h = omega arith
+      one : planSize k ≡ suc (planSize k - 1)
+      one = omega arith
 
-  -- the same by the first number
-  pub order-plan : (lv : ℕ) (p : List ℕ) → 0 < length p → ordered n lv (planned w p)
+  plan-first : (lv : ℕ) (p : List ℕ) → 0 < length p → ordered n lv (planned w p)
       ≡ ((ltb 0 lv && leb (planSize (getD p 0 0)) (length p)) && (ordered n (lv - 1) (planned w (take (planSize (getD p 0 0) - 1) (drop 1 p))) && ordered n lv (planned w (drop (planSize (getD p 0 0)) p))))
-  order-plan lv [] h = absurd (omega arith)
-  order-plan lv (k ∷ p) h = order-planned lv k p
+  plan-first lv [] h = absurd (omega arith)
+  plan-first lv (k ∷ p) h = order-planned lv k p
 
   pub plan-none : (lv : ℕ) (p : List ℕ) → length p ≡ 0 → ordered n lv (planned w p) ≡ true
   plan-none lv [] h = ap (ordered n lv) planned-none ∙ nil-order n 0 lv
   plan-none lv (k ∷ p) h = absurd (omega arith)
 
-  pub plan-some : (k : ℕ) → 0 < planSize k
-  plan-some k = size-some k
+  -- the rows from place `at` on: of the number there, of what is beneath it, and of what is after
+  module _ (lv : ℕ) (p : List ℕ) (at k : ℕ) (h : at < length p) (e : k ≡ planSize (getD p at 0)) where
+    abbrev under : List ℕ
+    under = take (at + k - (at + 1)) (drop (at + 1) p)
+
+    plan-step : ordered n lv (planned w (drop at p)) ≡ ((ltb 0 lv && leb k (length p - at)) && (ordered n (lv - 1) (planned w under) && ordered n lv (planned w (drop (at + k) p))))
+    plan-step =
+        let q = drop at p in
+        let i : at + 0 ≡ at = omega arith in
+        let s : planSize (getD q 0 0) ≡ k = omega (arith, getD-drop at p 0 0 ∙ ap (λ x. getD p x 0) i, e) in
+        let z : k - 1 ≡ at + k - (at + 1) = omega arith in
+        plan-first lv q (omega (arith, length-drop at p))
+        ∙ ap₂ (λ x y. (ltb 0 lv && leb x y) && (ordered n (lv - 1) (planned w (take (x - 1) (drop 1 q))) && ordered n lv (planned w (drop x q)))) s (length-drop at p)
+        ∙ ap₂ (λ x y. (ltb 0 lv && leb k (length p - at)) && (ordered n (lv - 1) (planned w x) && ordered n lv (planned w y))) (ap₂ take z (drop-drop 1 at p)) (drop-drop k at p)
+
+    pub no-level : lv ≡ 0 → ordered n lv (planned w (drop at p)) ≡ false
+    no-level z = plan-step ∙ ap (λ x. (ltb 0 x && leb k (length p - at)) && (ordered n (lv - 1) (planned w under) && ordered n lv (planned w (drop (at + k) p)))) z
+
+    module _ (l : 0 < lv) where
+      pub no-room : length p - at < k → ordered n lv (planned w (drop at p)) ≡ false
+      no-room g = plan-step ∙ rw (lt-ltb 0 lv l, lt-leb k (length p - at) g)
+
+      pub under-broken : k ≤ length p - at → ordered n (lv - 1) (planned w under) ≡ false → ordered n lv (planned w (drop at p)) ≡ false
+      under-broken g b = plan-step ∙ rw (lt-ltb 0 lv l, le-leb k (length p - at) g, b)
+
+      pub plan-next : k ≤ length p - at → ordered n (lv - 1) (planned w under) ≡ true → ordered n lv (planned w (drop at p)) ≡ ordered n lv (planned w (drop (at + k) p))
+      plan-next g b = plan-step ∙ rw (lt-ltb 0 lv l, le-leb k (length p - at) g, b)
 
   -- the root: a folder of all rows
   pub root-plan : (p : List ℕ) → 0 < length p → getD p 0 0 ≡ length p → orderFits w (length p) (planned w p) ≡ ordered n 16 (planned w p)
@@ -147,22 +165,15 @@ module _ (w : ℕ) where
   root-not (zero ∷ p) e = refl
   root-not (suc k ∷ p) e = rw (ne-eqb (suc k) (suc (length p)) e)
 
-  -- rows written one after the other
-  pub planned-first : (p : List ℕ) → 0 < length p → planned w p ≡ plannedRow w (getD p 0 0) ++ planned w (drop 1 p)
-  planned-first [] h = absurd (omega arith)
-  planned-first (k ∷ p) h = planned-cons k p
-
--- no numbers, no words
-pub planned-none-of : (w : ℕ) (p t : List ℕ) → length p ≡ 0 → length t ≡ 0 → t ≡ planned w p
-planned-none-of w [] [] h e = sym (planned-none w)
-planned-none-of w [] (x ∷ t) h e = absurd (omega arith)
-planned-none-of w (k ∷ p) t h e = absurd (omega arith)
-
--- zeros as words
-pub columns-zeros : (m : ℕ) → columns m zeros ≡ replicate m 0
-unfolding columns
-columns-zeros zero = refl
-columns-zeros (suc m) = ap (_∷_ 0) (columns-zeros m)
+  -- one row more
+  planned-more : (i : ℕ) (p : List ℕ) → i < length p → planned w (take (i + 1) p) ≡ planned w (take i p) ++ plannedRow w (getD p i 0)
+  planned-more zero [] h = absurd (omega arith)
+  planned-more zero (k ∷ p) h = planned-cons k [] ∙ rw planned-none (append-nil (plannedRow w k))
+  planned-more (suc i) [] h = absurd (omega arith)
+  planned-more (suc i) (k ∷ p) h =
+      let z : suc i + 1 ≡ suc (i + 1) = omega arith in
+      ap (λ x. planned w (take x (k ∷ p))) z ∙ planned-cons k (take (i + 1) p) ∙ ap (λ l. plannedRow w k ++ l) (planned-more i p (omega arith))
+      ∙ sym (append-assoc (plannedRow w k) (planned w (take i p)) (plannedRow w (getD p i 0))) ∙ ap (λ l. l ++ plannedRow w (getD p i 0)) (sym (planned-cons k (take i p)))
 
 -- a folder's row
 pub planned-folder : (w k : ℕ) → 0 < k → plannedRow w k ≡ 3 ∷ k ∷ replicate (6 + 4 * w) 0
@@ -170,32 +181,54 @@ unfolding plannedRow
 planned-folder w zero h = absurd (omega arith)
 planned-folder w (suc k) h = refl
 
--- the first m words e written, and then the others y
-module _ (m : ℕ) (e t : List ℕ) (long : length e ≡ m) where
-  pub prefix-tail : (y : List ℕ) → putMid m (length (e ++ drop m t) - m) (e ++ drop m t) y ≡ e ++ y
-  prefix-tail y =
-      let u = e ++ drop m t in
-      let rest : length (drop m u) ≤ length u - m = omega (arith, length-drop m u) in
-      ap₂ (λ p z. p ++ (y ++ z)) (take-at e (drop m t) m long) (drop-of-length-le (drop m u) rest) ∙ ap (λ z. e ++ z) (append-nil y)
-
-  pub prefix-length : length (e ++ drop m t) ≡ m + (length t - m)
-  prefix-length = length-append e (drop m t) ∙ ap₂ _+_ long (length-drop m t)
-
-  pub prefix-rest : length (take (length (e ++ drop m t) - m) (drop m (e ++ drop m t))) ≡ length t - m
-  prefix-rest = tail-length m (e ++ drop m t) ∙ omega (arith, prefix-length)
-
 -- a row of zeros
 pub blank-row : (w : ℕ) → replicate {A = ℕ} (wide w) 0 ≡ 0 ∷ 0 ∷ replicate (6 + 4 * w) 0
 blank-row w = let e : wide w ≡ suc (suc (6 + 4 * w)) = omega arith in ap (λ x. replicate {A = ℕ} x 0) e
 
-pub blank-head : (w : ℕ) → replicate {A = ℕ} (wide w) 0 ≡ 0 ∷ 0 ∷ 0 ∷ 0 ∷ replicate (4 + 4 * w) 0
-blank-head w = let e : wide w ≡ suc (suc (suc (suc (4 + 4 * w)))) = omega arith in ap (λ x. replicate {A = ℕ} x 0) e
+-- IN THE LOOP: the head and the first rows are written
+pub record Upto (w device : ℕ) (p t : List ℕ) (row : ℕ) : Type 0 where
+  pub columns : w ≤ devices
+  pub few : length p ≤ 256
+  pub room : length t ≡ length p * wide w + wide w
+  pub upto : row ≤ length p
+  pub done : take ((row + 1) * wide w) t ≡ headWords w (record { device = device; counter = 0 }) (length p) ++ planned w (take row p)
 
--- of some rows, the first is there, and the others are one fewer
-pub first-room : (k m : ℕ) → (k ≡ 0 → ⊥) → m ≤ k * m
-first-room k m h = let l : 1 ≤ k = omega arith in omega (arith, mul-le-mul-right m l)
+module _ (w device : ℕ) (p t : List ℕ) where
+  -- no row yet
+  pub upto-none : (e : List ℕ) → w ≤ devices → length p ≤ 256 → length t ≡ length p * wide w + wide w → length e ≡ length (take (wide w) t)
+      → e ≡ headWords w (record { device = device; counter = 0 }) (length p) → Upto w device p (e ++ drop (wide w) t) 0
+  upto-none e b f r l q =
+      let n : wide w ≤ length t = omega arith in
+      record {
+        columns = b;
+        few = f;
+        room = head-length (wide w) t e n l ∙ r;
+        upto = omega arith;
+        done = head-words (wide w) t e n l ∙ q ∙ sym (append-nil _) ∙ ap (λ l. headWords w (record { device = device; counter = 0 }) (length p) ++ l) (sym (planned-none w));
+      }
 
-pub rest-words : (k m : ℕ) → (k ≡ 0 → ⊥) → k * m - m ≡ (k - 1) * m
-rest-words k m h =
-    let e : suc (k - 1) ≡ k = omega arith in
-    omega (arith, suc-mul (k - 1) m, ap (λ (x : ℕ). x * m) e)
+  module _ (row : ℕ) (u : Upto w device p t row) where
+    -- there is room for a row more
+    pub room-here : row < length p → ((row + 1) * wide w + wide w ≤ length t) × (length t ≤ 18504)
+    room-here h = (omega (arith, u .room, suc-mul row (wide w), mul-le-mul-right (wide w) h), omega (arith, u .room, words-small (length p) (wide w) (u .few) (omega (arith, u .columns))))
+
+    pub cut-long : row < length p → length (take ((row + 1) * wide w + wide w - (row + 1) * wide w) (drop ((row + 1) * wide w) t)) ≡ wide w
+    cut-long h = mid-len ((row + 1) * wide w) ((row + 1) * wide w + wide w) t (room-here h .0) ∙ omega arith
+
+    -- one row more
+    pub upto-more : (e : List ℕ) → row < length p → length e ≡ length (take ((row + 1) * wide w + wide w - (row + 1) * wide w) (drop ((row + 1) * wide w) t)) → e ≡ plannedRow w (getD p row 0)
+        → Upto w device p (putMid ((row + 1) * wide w) ((row + 1) * wide w + wide w - (row + 1) * wide w) t e) (row + 1)
+    upto-more e h l q = record {
+      columns = u .columns;
+      few = u .few;
+      room = same-len-mid ((row + 1) * wide w) ((row + 1) * wide w + wide w - (row + 1) * wide w) t e l ∙ u .room;
+      upto = omega arith;
+      done = row-words (wide w) t e (row + 1) _ (u .done) (room-here h .0) l ∙ append-assoc (headWords w (record { device = device; counter = 0 }) (length p)) _ e
+          ∙ ap (λ l. headWords w (record { device = device; counter = 0 }) (length p) ++ l) (ap (λ x. planned w (take row p) ++ x) q ∙ sym (planned-more w row p h));
+    }
+
+    -- all rows
+    pub upto-all : length p ≤ row → t ≡ plannedTable w device p
+    upto-all h =
+        sym (take-all ((row + 1) * wide w) t (omega (arith, u .room, add-mul row 1 (wide w), mul-le-mul-right {m = length p} {n = row} (wide w) h))) ∙ u .done
+        ∙ ap (λ l. headWords w (record { device = device; counter = 0 }) (length p) ++ planned w l) (take-all row p h)

@@ -30,5 +30,9 @@ pub fn ticking(clock: Clock) -> Ticked
 {
     let mut lent = clock;
     let stamp = tick(&mut lent);
-    Ticked { clock: lent, stamp }
+    let after = lent;
+    Ticked {
+        clock: after,
+        stamp,
+    }
 }

@@ -1,23 +1,21 @@
 -- An event at the words: what it needs of the table, and the words afterwards.
 use Prim.Native.Nat.{ℕ, _+_, _-_, _*_, _≤_, _<_}
-use mathlib.Core.Path.{_≡_, refl, sym, ap, ap₂, subst, _∙_}
+use mathlib.Core.Path.{_≡_, refl, ap₂, _∙_}
 use mathlib.Core.Bool.{true, false≢true}
 use mathlib.Core.List.{List}
 use mathlib.Core.Option.{Option, none, some}
 use native.Mathlib.Omega.{arith}
 use borrow.Author.Tests.{eqb-false, leb-false, eq-eqb, ne-eqb}
-use lib.ListN.{length, getD, take, drop, set}
-use borrow.Rule.Slice.PartMut.{putMid}
+use lib.ListN.{length, getD}
 use Rattle.paper.specs.declared.Stamp.{Stamp}
 use Rattle.paper.specs.declared.Clock.{Clock}
 use Rattle.paper.specs.Acts.{Event, creates, changes, removes, eventRow}
-use Rattle.paper.specs.Tree.{end, sheet, mapped, subtree, graft, sheetHere, size, Sheet}
+use Rattle.paper.specs.Tree.{subtree, sheetHere, size, Sheet}
 use Rattle.paper.specs.Words.{wide, kindNumber, sheetWords, Table, tableOf}
 use Rattle.paper.specs.Check.{checkOf}
 use Rattle.paper.specs.Calls.{oneToThree, eventNamed, fitsSheet, lastCount, newStamp, ticked, eventRefused, eventSheet, eventDone}
 use Rattle.laws.proofs.Refusals.{first-both, none-so, when-none}
 use Rattle.laws.proofs.Tables.{check-facts, checked-size}
-use Rattle.laws.proofs.Forests.{sheet-alone}
 use Rattle.event.specs.EventWords.{eventWords}
 use Rattle.mend.proofs.PutInPlace.{SheetAt, FineSheet, Changed, good, sheet-fine, sheet-part}
 use Rattle.mend.proofs.SheetInPlace.{cutRow, putRow, sheet-made}

@@ -8,7 +8,7 @@ use borrow.Rule.Slice.PartMut.{putMid}
 use Rattle.paper.specs.declared.Clock.{Clock}
 use Rattle.paper.specs.Columns.{Vec}
 use Rattle.paper.specs.Tree.{Forest, mapped, subtree, graft, sheetHere, Sheet}
-use Rattle.paper.specs.Words.{wide, sheetWords, Table, tableOf}
+use Rattle.paper.specs.Words.{wide, sheetWords, tableOf}
 use Rattle.laws.proofs.Forests.{sheet-alone}
 use Rattle.mend.proofs.PutInPlace.{SheetAt, FineSheet, Changed, sheet-changed}
 

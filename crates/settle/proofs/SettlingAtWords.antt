@@ -1,25 +1,20 @@
 -- A settling at the words: what it needs of the two tables, and the words afterwards.
-use Prim.Native.Nat.{ℕ, suc, _+_, _-_, _*_, _<_}
-use mathlib.Core.Path.{_≡_, refl, sym, ap, ap₂, subst, _∙_}
+use Prim.Native.Nat.{ℕ, suc, _-_, _<_}
+use mathlib.Core.Path.{_≡_, refl, sym, ap, ap₂, _∙_}
 use mathlib.Core.Bool.{Bool, true, false, _&&_, cond, false≢true}
 use mathlib.Core.List.{List, [], append-nil}
 use mathlib.Core.Option.{Option, none, some, Option·map}
-use native.Mathlib.Omega.{arith}
-use lib.Dec.{eqb}
 use borrow.Author.Tests.{eqb-false, eq-eqb, ne-eqb}
-use lib.ListN.{take, drop, set}
-use borrow.Rule.Slice.PartMut.{putMid}
 use Rattle.paper.specs.declared.Stamp.{Stamp}
 use Rattle.paper.specs.declared.Clock.{Clock}
 use Rattle.paper.specs.Columns.{Vec, full}
 use Rattle.paper.specs.Rules.{Kind, never, live, removed, Row}
 use Rattle.paper.specs.Acts.{noStamp, Choice, theirs, own, new, stamps, birthOf, settleRow}
-use Rattle.paper.specs.Tree.{end, sheet, mapped, graft, sheetHere, Sheet, above}
+use Rattle.paper.specs.Tree.{sheetHere, Sheet, above}
 use Rattle.paper.specs.Walk.{Two, zip, raised, ruleAt}
-use Rattle.paper.specs.Words.{wide, kindNumber, floorOf, sheetWords, Table, tableOf}
+use Rattle.paper.specs.Words.{kindNumber, floorOf, sheetWords, Table, tableOf}
 use Rattle.paper.specs.Calls.{rowAt, newStamp, ticked, lastCount, twoRefused, pairAt, rulingHere, conflicts, choiceNamed, settleRefused, settleSheet, settleDone}
 use Rattle.laws.proofs.Refusals.{first-both, none-so, when-none}
-use Rattle.laws.proofs.Forests.{sheet-alone}
 use Rattle.laws.proofs.WrittenRows.{sheet-read}
 use Rattle.leaf.specs.Leaves.{takenFrom, floored}
 use Rattle.leaf.proofs.TreeSteps.{raised-narrow}

@@ -5,22 +5,34 @@ ghost use mathlib.Core.Path.{_≡_};
 ghost use Prim.Native.Nat.{_+_, _<_, _^_};
 ghost use Rattle.paper.specs.Calls.{newStamp, ticked};
 
+// A clock that went up, with the stamp that it handed out.
+pub struct Ticked {
+    pub clock: Clock,
+    pub stamp: Stamp,
+}
+
 // Advances the clock and hands out the stamp of the new event.
 pub fn tick(c: &mut Clock) -> Stamp
     requires { ⌜ now c .counter + 1 < 2 ^ 32 ⌝ }
     ensures { λ r. ⌜ (now (c .exit) ≡ ticked (now (c .entry))) × (r ≡ newStamp (now (c .entry))) ⌝ }
 {
     let device = c.device;
-    let count = c.counter + 1;
+    let before = c.counter;
+    let count = before + 1;
     c.counter = count;
-    Stamp { device, count }
+    Stamp::of(device, count)
 }
 
-// The stamp that a device's clock at this counter hands out.
-pub fn stamped(device: u32, counter: u32) -> Stamp
-    requires { ⌜ counter + 1 < 2 ^ 32 ⌝ }
-    ensures { λ r. ⌜ r ≡ newStamp (record { device = device; counter = counter }) ⌝ }
+// Lends a clock to go up; hands back both the clock and the new stamp.
+pub fn ticking(clock: Clock) -> Ticked
+    requires { ⌜ clock .counter + 1 < 2 ^ 32 ⌝ }
+    ensures { λ r. ⌜ (r .clock ≡ ticked clock) × (r .stamp ≡ newStamp clock) ⌝ }
 {
-    let mut c = Clock { device, counter };
-    tick(&mut c)
+    let mut lent = clock;
+    let stamp = tick(&mut lent);
+    let after = lent;
+    Ticked {
+        clock: after,
+        stamp,
+    }
 }

@@ -1,24 +1,24 @@
 -- An event at the words: what it needs of the table, and the words afterwards.
 use Prim.Native.Nat.{ℕ, _+_, _-_, _*_, _≤_, _<_}
-use mathlib.Core.Path.{_≡_, refl, sym, ap, ap₂, subst, _∙_}
+use mathlib.Core.Path.{_≡_, refl, ap₂, _∙_}
 use mathlib.Core.Bool.{true, false≢true}
 use mathlib.Core.List.{List}
 use mathlib.Core.Option.{Option, none, some}
 use native.Mathlib.Omega.{arith}
 use borrow.Author.Tests.{eqb-false, leb-false, eq-eqb, ne-eqb}
-use lib.ListN.{length, getD, take, drop, set}
-use borrow.Rule.Slice.PartMut.{putMid}
+use lib.ListN.{length, getD}
 use Rattle.paper.specs.declared.Stamp.{Stamp}
+use Rattle.paper.specs.declared.Clock.{Clock}
 use Rattle.paper.specs.Acts.{Event, creates, changes, removes, eventRow}
-use Rattle.paper.specs.Tree.{end, sheet, mapped, subtree, graft, sheetHere, size, Sheet}
+use Rattle.paper.specs.Tree.{subtree, sheetHere, size, Sheet}
 use Rattle.paper.specs.Words.{wide, kindNumber, sheetWords, Table, tableOf}
 use Rattle.paper.specs.Check.{checkOf}
 use Rattle.paper.specs.Calls.{oneToThree, eventNamed, fitsSheet, lastCount, newStamp, ticked, eventRefused, eventSheet, eventDone}
 use Rattle.laws.proofs.Refusals.{first-both, none-so, when-none}
 use Rattle.laws.proofs.Tables.{check-facts, checked-size}
-use Rattle.laws.proofs.Forests.{sheet-alone}
 use Rattle.event.specs.EventWords.{eventWords}
-use Rattle.mend.proofs.PutInPlace.{SheetAt, FineSheet, Changed, good, sheet-fine, sheet-part, sheet-changed}
+use Rattle.mend.proofs.PutInPlace.{SheetAt, FineSheet, Changed, good, sheet-fine, sheet-part}
+use Rattle.mend.proofs.SheetInPlace.{cutRow, putRow, sheet-made}
 
 -- a sheet's row with an event written into it
 pub event-words : (w : ℕ) (e : Event) (s : Stamp) (m : ℕ) (x : Sheet) → eventWords e s m (sheetWords w x) ≡ sheetWords w (eventSheet e s m x)
@@ -45,10 +45,10 @@ event-facts w t row event e =
     let f = first-both _ _ (d .1) in
     record {
       check = a .0;
-      named = none-so _ 15 (b .0);
-      there = omega (arith, leb-false (size (tableOf w t .tree)) row (when-none _ 7 (c .0)));
-      fits = none-so _ 9 (d .0);
-      room = eqb-false _ _ (when-none _ 14 (f .0));
+      named = none-so _ _ (b .0);
+      there = omega (arith, leb-false (size (tableOf w t .tree)) row (when-none _ _ (c .0)));
+      fits = none-so _ _ (d .0);
+      room = eqb-false _ _ (when-none _ _ (f .0));
     }
 
 -- its words have room for the row
@@ -97,7 +97,7 @@ event-fine : (w : ℕ) (e : Event) (s : Stamp) (m : ℕ) (x : Sheet) → FineShe
 unfolding eventSheet
 event-fine w e s m x f h = (f .0, rw (event-stamp e s m x) h)
 
--- AN EVENT IN PLACE: the row's part came back with the event, and the counter is set
+-- AN EVENT IN PLACE: the row's part came back with the event, and the counter is that of the clock that went up
 module _ (w : ℕ) (t : List ℕ) (row event mark : ℕ) (ok : EventFits w t row event) where
   abbrev b : Table
   b = tableOf w t
@@ -105,21 +105,13 @@ module _ (w : ℕ) (t : List ℕ) (row event mark : ℕ) (ok : EventFits w t row
   at : SheetAt w t row
   at = sheet-there w t row event ok
 
-  abbrev after : Sheet
-  after = eventSheet (eventNamed event) (newStamp (b .clock)) mark (at .x)
-
-  after-fine : FineSheet w after
-  after-fine = event-fine w (eventNamed event) (newStamp (b .clock)) mark (at .x) (sheet-fine w t row at) (good w t row (at .at) .device)
-
-  event-done : _≡_ {A = Table} (record { clock = ticked (b .clock); tree = graft (b .tree) row (sheet after end) }) (eventDone b row (eventNamed event) mark)
-  unfolding eventDone mapped
-  event-done =
-      ap (λ g. record { clock = ticked (b .clock); tree = graft (b .tree) row (mapped (eventSheet (eventNamed event) (newStamp (b .clock)) mark) (λ f. f) g) }) (sym (sheet-alone (b .tree) row (at .x) (at .is)))
-
-  module _ (s : Stamp) (e : List ℕ) (same : s ≡ newStamp (b .clock))
-      (wrote : e ≡ eventWords (eventNamed event) s mark (take ((row + 1) * wide w + wide w - (row + 1) * wide w) (drop ((row + 1) * wide w) t))) where
-    pub event-changed : Changed w t (set (putMid ((row + 1) * wide w) ((row + 1) * wide w + wide w - (row + 1) * wide w) t e) 1 (s .count)) row (eventDone b row (eventNamed event) mark)
-    event-changed =
-        subst (Changed w t _ row) (ap (λ (z : Stamp). record { clock = record { device = b .clock .device; counter = z .count }; tree = graft (b .tree) row (sheet after end) }) same ∙ event-done)
-        (sheet-changed w t row at after after-fine e
-        (wrote ∙ ap₂ (λ x y. eventWords (eventNamed event) x mark y) same (sheet-part w t row at) ∙ event-words w (eventNamed event) (newStamp (b .clock)) mark (at .x)) (s .count))
+  pub event-changed : (s : Stamp) → s ≡ newStamp (b .clock) → (e : List ℕ) → e ≡ eventWords (eventNamed event) s mark (cutRow w t row) → (c : Clock) → c ≡ ticked (b .clock)
+      → Changed w t (putRow w t row e (c .counter)) row (eventDone b row (eventNamed event) mark)
+  unfolding eventDone
+  event-changed s same e wrote c up =
+      sheet-made w t row at (eventSheet (eventNamed event) (newStamp (b .clock)) mark) (λ f. f) (b .tree) (at .x) (at .is)
+      (event-fine w (eventNamed event) (newStamp (b .clock)) mark (at .x) (sheet-fine w t row at) (good w t row (at .at) .device)) e
+      (wrote
+      ∙ ap₂ (λ x y. eventWords (eventNamed event) x mark y) same (sheet-part w t row at)
+      ∙ event-words w (eventNamed event) (newStamp (b .clock)) mark (at .x))
+      c (ticked (b .clock)) up refl

@@ -32,13 +32,15 @@ fn is_proper(s: Stamp, columns: usize) -> bool
     0 < s.count
 }
 
+// It is the stamp of no event.
 fn is_absent(s: Stamp) -> bool
     ensures { λ r. ⌜ r ≡ absent s ⌝ }
 {
-    if s.device != 0 {
+    let empty = Stamp::empty();
+    if s.device != empty.device {
         return false;
     }
-    s.count == 0
+    s.count == empty.count
 }
 
 // A row's stamp.

@@ -1,25 +1,20 @@
 -- A settling at the words: what it needs of the two tables, and the words afterwards.
-use Prim.Native.Nat.{ℕ, suc, _+_, _-_, _*_, _<_}
-use mathlib.Core.Path.{_≡_, refl, sym, ap, ap₂, subst, _∙_}
+use Prim.Native.Nat.{ℕ, suc, _-_, _<_}
+use mathlib.Core.Path.{_≡_, refl, sym, ap, ap₂, _∙_}
 use mathlib.Core.Bool.{Bool, true, false, _&&_, cond, false≢true}
 use mathlib.Core.List.{List, [], append-nil}
 use mathlib.Core.Option.{Option, none, some, Option·map}
-use native.Mathlib.Omega.{arith}
-use lib.Dec.{eqb}
 use borrow.Author.Tests.{eqb-false, eq-eqb, ne-eqb}
-use lib.ListN.{take, drop, set}
-use borrow.Rule.Slice.PartMut.{putMid}
 use Rattle.paper.specs.declared.Stamp.{Stamp}
 use Rattle.paper.specs.declared.Clock.{Clock}
 use Rattle.paper.specs.Columns.{Vec, full}
 use Rattle.paper.specs.Rules.{Kind, never, live, removed, Row}
-use Rattle.paper.specs.Acts.{Choice, theirs, own, new, stamps, birthOf, settleRow}
-use Rattle.paper.specs.Tree.{end, sheet, mapped, graft, sheetHere, Sheet, above}
+use Rattle.paper.specs.Acts.{noStamp, Choice, theirs, own, new, stamps, birthOf, settleRow}
+use Rattle.paper.specs.Tree.{sheetHere, Sheet, above}
 use Rattle.paper.specs.Walk.{Two, zip, raised, ruleAt}
-use Rattle.paper.specs.Words.{wide, kindNumber, floorOf, sheetWords, Table, tableOf}
+use Rattle.paper.specs.Words.{kindNumber, floorOf, sheetWords, Table, tableOf}
 use Rattle.paper.specs.Calls.{rowAt, newStamp, ticked, lastCount, twoRefused, pairAt, rulingHere, conflicts, choiceNamed, settleRefused, settleSheet, settleDone}
 use Rattle.laws.proofs.Refusals.{first-both, none-so, when-none}
-use Rattle.laws.proofs.Forests.{sheet-alone}
 use Rattle.laws.proofs.WrittenRows.{sheet-read}
 use Rattle.leaf.specs.Leaves.{takenFrom, floored}
 use Rattle.leaf.proofs.TreeSteps.{raised-narrow}
@@ -27,8 +22,10 @@ use Rattle.leaf.proofs.RowsWritten.{sheet-floored, sheet-taken}
 use Rattle.two.proofs.Listed.{row-cut}
 use Rattle.two.proofs.TwoTables.{Paired, paired}
 use Rattle.verdict.proofs.Zipped.{side-left, side-right, ruling-pair}
-use Rattle.settle.specs.SettledWords.{newWords, chosenWords, settledWords}
-use Rattle.mend.proofs.PutInPlace.{SheetAt, FineSheet, Changed, there, good, narrow-above, sheet-fine, sheet-part, sheet-changed}
+use Rattle.clock.specs.declared.Ticked.{Ticked}
+use Rattle.settle.specs.SettledWords.{newWords, chosenWords, settledWords, tickedBy, RowSettled}
+use Rattle.mend.proofs.PutInPlace.{SheetAt, FineSheet, Changed, there, good, narrow-above, sheet-fine, sheet-part}
+use Rattle.mend.proofs.SheetInPlace.{cutRow, putRow, sheet-made}
 
 -- a choice by its number
 choice-theirs : (n : ℕ) → n ≡ 1 → choiceNamed n ≡ theirs
@@ -47,27 +44,45 @@ pub new-stamps : stamps new ≡ true
 unfolding stamps
 new-stamps = refl
 
+-- the clock after a choice, and the count of its stamp
+module _ (b : Clock) where
+  abbrev up : Ticked
+  up = record { clock = ticked b; stamp = newStamp b }
+
+  abbrev still : Ticked
+  still = record { clock = b; stamp = noStamp }
+
+  clock-by : (y : Bool) → cond y up still .clock ≡ cond y (ticked b) b
+  clock-by true = refl
+  clock-by false = refl
+
+  device-by : (y : Bool) → cond y (ticked b) b .device ≡ b .device
+  device-by true = refl
+  device-by false = refl
+
+  pub count-by : (y : Bool) → cond y up still .stamp .count ≡ cond y (suc (b .counter)) 0
+  count-by true = refl
+  count-by false = refl
+
 -- THE ROW step by step, as the code goes: its floor raised, `one`, and then the choice
-module _ (w : ℕ) (b : Clock) (v : Vec) (n m : ℕ) (s r one : List ℕ) (up : one ≡ floored w (raised b (floorOf w r) v) r) where
-  settled-by : (c : Choice) → choiceNamed n ≡ c → (two : List ℕ) → two ≡ chosenWords c (newStamp b) m s one
-      → (cond (stamps c) (suc (b .counter)) 0 ≡ cond (stamps (choiceNamed n)) (suc (b .counter)) 0) × (two ≡ settledWords w b v (choiceNamed n) m s r)
+module _ (w : ℕ) (b : Clock) (v : Vec) (n m : ℕ) (s r one : List ℕ) (raise : one ≡ floored w (raised b (floorOf w r) v) r) where
+  settled-by : (c : Choice) → choiceNamed n ≡ c → (k : Ticked) → k ≡ tickedBy c b → (two : List ℕ) → two ≡ chosenWords c (newStamp b) m s one → RowSettled w b v n m s r two k
   unfolding settledWords
-  settled-by c e two g = (ap (λ x. cond (stamps x) (suc (b .counter)) 0) (sym e), g ∙ ap₂ (λ x y. chosenWords x (newStamp b) m s y) (sym e) up)
+  settled-by c e k f two g = (f ∙ ap (λ x. tickedBy x b) (sym e), g ∙ ap₂ (λ x y. chosenWords x (newStamp b) m s y) (sym e) raise)
 
-  pub settled-theirs : n ≡ 1 → (two : List ℕ) → two ≡ takenFrom s one → (0 ≡ cond (stamps (choiceNamed n)) (suc (b .counter)) 0) × (two ≡ settledWords w b v (choiceNamed n) m s r)
-  unfolding chosenWords stamps
-  settled-theirs e two g = settled-by theirs (choice-theirs n e) two g
+  module _ (stamp : Stamp) (none : stamp ≡ noStamp) where
+    pub settled-theirs : n ≡ 1 → (two : List ℕ) → two ≡ takenFrom s one → RowSettled w b v n m s r two (record { clock = b; stamp = stamp })
+    unfolding chosenWords stamps
+    settled-theirs e two g = settled-by theirs (choice-theirs n e) _ (ap (λ z. record { clock = b; stamp = z }) none) two g
 
-  pub settled-own : n ≡ 2 → (0 ≡ cond (stamps (choiceNamed n)) (suc (b .counter)) 0) × (one ≡ settledWords w b v (choiceNamed n) m s r)
-  unfolding chosenWords stamps
-  settled-own e = settled-by own (choice-own n e) one refl
+    pub settled-own : n ≡ 2 → RowSettled w b v n m s r one (record { clock = b; stamp = stamp })
+    unfolding chosenWords stamps
+    settled-own e = settled-by own (choice-own n e) _ (ap (λ z. record { clock = b; stamp = z }) none) one refl
 
-  pub settled-new : (n ≡ 1 → ⊥) → (n ≡ 2 → ⊥) → (stamp : Stamp) → stamp ≡ newStamp b → (two : List ℕ) → two ≡ newWords stamp m s one
-      → (stamp .count ≡ cond (stamps (choiceNamed n)) (suc (b .counter)) 0) × (two ≡ settledWords w b v (choiceNamed n) m s r)
+  pub settled-new : (n ≡ 1 → ⊥) → (n ≡ 2 → ⊥) → (k : Ticked) → (k .clock ≡ ticked b) × (k .stamp ≡ newStamp b) → (two : List ℕ) → two ≡ newWords (k .stamp) m s one → RowSettled w b v n m s r two k
   unfolding chosenWords stamps
-  settled-new e f stamp q two g =
-      let by = settled-by new (choice-new n e f) two (g ∙ ap (λ (z : Stamp). newWords z m s one) q) in
-      (ap (λ (z : Stamp). z .count) q ∙ by .0, by .1)
+  settled-new e f k q two g =
+      settled-by new (choice-new n e f) k (ap₂ (λ y z. record { clock = y; stamp = z }) (q .0) (q .1)) two (g ∙ ap (λ (z : Stamp). newWords z m s one) (q .1))
 
 -- a sheet's row with the floor f
 floor-words : (w : ℕ) (x : Sheet) (f : Vec) → floored w f (sheetWords w x) ≡ sheetWords w (record { row = x .row; floor = f })
@@ -82,7 +97,8 @@ new-words w stamp m x live s b mark f = refl
 new-words w stamp m x removed s b mark f = refl
 
 -- or with any choice
-choice-words : (w : ℕ) (c : Choice) (stamp : Stamp) (m : ℕ) (x y : Sheet) → chosenWords c stamp m (sheetWords w x) (sheetWords w y) ≡ sheetWords w (record { row = settleRow c stamp m (x .row) (y .row); floor = y .floor })
+choice-words : (w : ℕ) (c : Choice) (stamp : Stamp) (m : ℕ) (x y : Sheet)
+    → chosenWords c stamp m (sheetWords w x) (sheetWords w y) ≡ sheetWords w (record { row = settleRow c stamp m (x .row) (y .row); floor = y .floor })
 unfolding chosenWords settleRow
 choice-words w theirs stamp m x y =
     ap₂ takenFrom (sym (append-nil (sheetWords w x))) (sym (append-nil (sheetWords w y))) ∙ sheet-taken w x y [] [] ∙ append-nil (sheetWords w (record { row = x .row; floor = y .floor }))
@@ -109,8 +125,8 @@ settle-facts w s t row choice e =
     let f = first-both _ _ (d .1) in
     record {
       two = a .0;
-      conflict = none-so _ 13 (d .0);
-      room = λ h. eqb-false _ _ (both-false _ _ (when-none _ 14 (f .0)) h);
+      conflict = none-so _ _ (d .0);
+      room = λ h. eqb-false _ _ (both-false _ _ (when-none _ _ (f .0)) h);
     }
 
 -- the two sheets that are in conflict
@@ -135,7 +151,9 @@ module _ (w : ℕ) (s t : List ℕ) (row choice mark : ℕ) (ok : SettleFits w s
   sheets = go (sheetHere (pairAt a b row)) refl
     where
       go : (o : Option (Two Sheet)) → sheetHere (pairAt a b row) ≡ o → Sheets w s t row
-      go none z = absurd (false≢true (sym (ap conflicts (ruling-pair a b row (accepted .shaped) ∙ ap (Option·map (ruleAt (a .clock) (b .clock) (above (a .tree) row) (above (b .tree) row))) z)) ∙ ok .conflict))
+      go none z =
+          let rule = Option·map (ruleAt (a .clock) (b .clock) (above (a .tree) row) (above (b .tree) row)) in
+          absurd (false≢true (sym (ap conflicts (ruling-pair a b row (accepted .shaped) ∙ ap rule z)) ∙ ok .conflict))
       go (some x) z = record { x = x; is = z }
 
   abbrev x : Two Sheet
@@ -174,38 +192,26 @@ module _ (w : ℕ) (s t : List ℕ) (row choice mark : ℕ) (ok : SettleFits w s
 
   -- its words, as the row's part came back
   after-words : (v : Vec) (e : List ℕ) → v ≡ full (a .clock) (above (a .tree) row) (floorOf w (rowAt w s row))
-      → e ≡ settledWords w (b .clock) v c mark (take ((row + 1) * wide w + wide w - (row + 1) * wide w) (drop ((row + 1) * wide w) s)) (take ((row + 1) * wide w + wide w - (row + 1) * wide w) (drop ((row + 1) * wide w) t))
-      → e ≡ sheetWords w after
+      → e ≡ settledWords w (b .clock) v c mark (cutRow w s row) (cutRow w t row) → e ≡ sheetWords w after
   unfolding settleSheet settledWords source-at target-at
   after-words v e known wrote =
-      let floor-a : floorOf w (rowAt w s row) ≡ x .a .floor = ap (floorOf w) (sym (row-cut w s row) ∙ sheet-part w s row source-at) ∙ ap (λ (y : Sheet). y .floor) (sheet-read w (x .a) (fine-a .0)) in
-      let floor-b : floorOf w (sheetWords w (x .b)) ≡ x .b .floor = ap (λ (y : Sheet). y .floor) (sheet-read w (x .b) (fine-b .0)) in
-      let f = raised (b .clock) (x .b .floor) (full (a .clock) (above (a .tree) row) (x .a .floor)) in
+      let floor-is : (y : Sheet) → FineSheet w y → floorOf w (sheetWords w y) ≡ y .floor = λ y f. ap (λ (z : Sheet). z .floor) (sheet-read w y (f .0)) in
+      let floor-a : floorOf w (rowAt w s row) ≡ x .a .floor = ap (floorOf w) (sym (row-cut w s row) ∙ sheet-part w s row source-at) ∙ floor-is (x .a) fine-a in
+      let know = full (a .clock) (above (a .tree) row) in
+      let f = raised (b .clock) (x .b .floor) (know (x .a .floor)) in
+      let by = chosenWords c (newStamp (b .clock)) mark (sheetWords w (x .a)) in
       wrote
       ∙ ap₂ (λ y z. settledWords w (b .clock) v c mark y z) (sheet-part w s row source-at) (sheet-part w t row target-at)
-      ∙ ap₂ (λ (y z : Vec). chosenWords c (newStamp (b .clock)) mark (sheetWords w (x .a)) (floored w (raised (b .clock) y z) (sheetWords w (x .b)))) floor-b (known ∙ ap (full (a .clock) (above (a .tree) row)) floor-a)
-      ∙ ap (chosenWords c (newStamp (b .clock)) mark (sheetWords w (x .a))) (floor-words w (x .b) f)
+      ∙ ap₂ (λ (y z : Vec). by (floored w (raised (b .clock) y z) (sheetWords w (x .b)))) (floor-is (x .b) fine-b) (known ∙ ap know floor-a)
+      ∙ ap by (floor-words w (x .b) f)
       ∙ choice-words w c (newStamp (b .clock)) mark (x .a) (record { row = x .b .row; floor = f })
 
-  -- the counter afterwards
-  clock-after : (n k : ℕ) → n ≡ cond (stamps c) (suc (b .clock .counter)) 0 → k ≡ cond (eqb n 0) (b .clock .counter) n → _≡_ {A = Clock} (record { device = b .clock .device; counter = k }) (cond (stamps c) (ticked (b .clock)) (b .clock))
-  clock-after n k e f = ap (λ (z : ℕ). record { device = b .clock .device; counter = z }) (f ∙ ap (λ z. cond (eqb z 0) (b .clock .counter) z) e) ∙ go (stamps c)
-    where
-      go : (y : Bool) → _≡_ {A = Clock} (record { device = b .clock .device; counter = cond (eqb (cond y (suc (b .clock .counter)) 0) 0) (b .clock .counter) (cond y (suc (b .clock .counter)) 0) }) (cond y (ticked (b .clock)) (b .clock))
-      go true = ap (λ z. record { device = b .clock .device; counter = cond z (b .clock .counter) (suc (b .clock .counter)) }) (ne-eqb (suc (b .clock .counter)) 0 (λ z. omega arith))
-      go false = refl
-
-  settle-done : (n k : ℕ) → n ≡ cond (stamps c) (suc (b .clock .counter)) 0 → k ≡ cond (eqb n 0) (b .clock .counter) n
-      → _≡_ {A = Table} (record { clock = record { device = b .clock .device; counter = k }; tree = graft (b .tree) row (sheet after end) }) (settleDone a b row c mark)
-  unfolding settleDone mapped
-  settle-done n k e f =
-      ap₂ (λ (z : Clock) g. record { clock = z; tree = graft (b .tree) row (mapped (settleSheet (a .clock) (b .clock) (above (a .tree) row) c mark) (λ y. y .b) g) }) (clock-after n k e f)
-      (sym (sheet-alone (zip (a .tree) (b .tree)) row x (sheets .is)))
-
-  -- A SETTLING IN PLACE: the row's part came back settled, and the counter is set
-  pub settle-changed : (v : Vec) (e : List ℕ) (n k : ℕ) → v ≡ full (a .clock) (above (a .tree) row) (floorOf w (rowAt w s row))
-      → e ≡ settledWords w (b .clock) v c mark (take ((row + 1) * wide w + wide w - (row + 1) * wide w) (drop ((row + 1) * wide w) s)) (take ((row + 1) * wide w + wide w - (row + 1) * wide w) (drop ((row + 1) * wide w) t))
-      → n ≡ cond (stamps c) (suc (b .clock .counter)) 0 → k ≡ cond (eqb n 0) (b .clock .counter) n
-      → Changed w t (set (putMid ((row + 1) * wide w) ((row + 1) * wide w + wide w - (row + 1) * wide w) t e) 1 k) row (settleDone a b row c mark)
-  settle-changed v e n k known wrote made count =
-      subst (Changed w t _ row) (settle-done n k made count) (sheet-changed w t row target-at after after-fine e (after-words v e known wrote) k)
+  -- A SETTLING IN PLACE: the row's part came back settled, and the counter is that of the clock afterwards
+  pub settle-changed : (v : Vec) (e : List ℕ) (k : Ticked) → v ≡ full (a .clock) (above (a .tree) row) (floorOf w (rowAt w s row))
+      → RowSettled w (b .clock) v choice mark (cutRow w s row) (cutRow w t row) e k
+      → Changed w t (putRow w t row e (k .clock .counter)) row (settleDone a b row c mark)
+  unfolding settleDone
+  settle-changed v e k known wrote =
+      sheet-made w t row target-at (settleSheet (a .clock) (b .clock) (above (a .tree) row) c mark) (λ y. y .b) (zip (a .tree) (b .tree)) x (sheets .is) after-fine
+      e (after-words v e known (wrote .1))
+      (k .clock) (cond (stamps c) (ticked (b .clock)) (b .clock)) (ap (λ (z : Ticked). z .clock) (wrote .0) ∙ clock-by (b .clock) (stamps c)) (device-by (b .clock) (stamps c))

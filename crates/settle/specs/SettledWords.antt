@@ -1,5 +1,6 @@
--- A sheet's row after a settling, as words: s is the source's row and r the target's.
-use Prim.Native.Nat.{ℕ}
+-- A sheet's row after a settling, as words: s is the source's row and r the target's. And the table that it is made in.
+use Prim.Native.Nat.{ℕ, suc}
+use mathlib.Core.Path.{_≡_}
 use mathlib.Core.Bool.{cond}
 use mathlib.Core.List.{List}
 use lib.Dec.{eqb}
@@ -7,11 +8,12 @@ use lib.ListN.{getD, set}
 use Rattle.paper.specs.declared.Stamp.{Stamp}
 use Rattle.paper.specs.declared.Clock.{Clock}
 use Rattle.paper.specs.Columns.{Vec}
-use Rattle.paper.specs.Acts.{Choice, theirs, own, new}
+use Rattle.paper.specs.Acts.{noStamp, Choice, theirs, own, new, stamps}
 use Rattle.paper.specs.Walk.{raised}
-use Rattle.paper.specs.Words.{floorOf}
+use Rattle.paper.specs.Words.{floorOf, tableOf, written}
 use Rattle.paper.specs.Order.{kindWord}
-use Rattle.paper.specs.Calls.{newStamp}
+use Rattle.paper.specs.Calls.{newStamp, ticked, choiceNamed, settleDone}
+use Rattle.clock.specs.declared.Ticked.{Ticked}
 use Rattle.leaf.specs.Leaves.{takenFrom, floored}
 use Rattle.mend.specs.Restamped.{restamped}
 
@@ -30,3 +32,16 @@ chosenWords new stamp m s r = newWords stamp m s r
 -- the floor raised by v, then the choice; b is the clock of r's table
 unfoldable pub settledWords : ℕ → Clock → Vec → Choice → ℕ → List ℕ → List ℕ → List ℕ
 settledWords w b v c m s r = chosenWords c (newStamp b) m s (floored w (raised b (floorOf w r) v) r)
+
+-- the clock b after the choice, with the stamp that it handed out, if any
+abbrev pub tickedBy : Choice → Clock → Ticked
+tickedBy c b = cond (stamps c) (record { clock = ticked b; stamp = newStamp b }) (record { clock = b; stamp = noStamp })
+
+-- the row r of a table with the clock b is settled: u is the row afterwards, and k the clock with its stamp
+abbrev pub RowSettled : ℕ → Clock → Vec → ℕ → ℕ → List ℕ → List ℕ → List ℕ → Ticked → Type 0
+RowSettled w b v choice m s r u k = (k ≡ tickedBy (choiceNamed choice) b) × (u ≡ settledWords w b v (choiceNamed choice) m s r)
+
+-- the conflict of the tables s and t is settled in t: u is t afterwards, and n the count of the new stamp, 0 if none is made
+abbrev pub SettleMade : ℕ → List ℕ → List ℕ → List ℕ → ℕ → ℕ → ℕ → ℕ → Type 0
+SettleMade w s t u row choice mark n =
+    (n ≡ cond (stamps (choiceNamed choice)) (suc (tableOf w t .clock .counter)) 0) × (u ≡ written w (settleDone (tableOf w s) (tableOf w t) row (choiceNamed choice) mark))

@@ -22,7 +22,7 @@ use Rattle.laws.proofs.Tables.{head-long}
 use Rattle.paper.specs.Good.{GoodTable}
 use Rattle.paper.specs.Calls.{newStamp, ticked, eventSheet, eventDone, pairAt, passDone, isFolder, settleSheet, settleDone}
 use Rattle.laws.proofs.Forests.{mapped-here, mapped-subtree, shape, shape-size}
-use Rattle.history.specs.Knowledge.{passed}
+use Rattle.run.specs.Knowledge.{passed}
 use Rattle.history.specs.Vectors.{vectors}
 use Rattle.history.specs.Look.{cellAt, both}
 use Rattle.history.proofs.Cells.{cellIn, zeros-greatest, cell-inside, cell-before, cell-after, cell-subtree, cell-table}

@@ -20,9 +20,9 @@ use Rattle.paper.specs.Widths.{widthOf, tableAny, checkAny, newAny, eventAny, s
 use Rattle.laws.proofs.Tables.{table-read, written-passes}
 use Rattle.laws.proofs.Widths.{width-either, width-checked, any-passes, new-any}
 use Rattle.laws.proofs.Forests.{mapped-subtree, mapped-here, zip-right, mapped-levels, shape-size}
-use Rattle.history.specs.Knowledge.{passed}
+use Rattle.run.specs.Knowledge.{passed}
 use Rattle.history.specs.Vectors.{vectors}
-use Rattle.history.specs.Run.{within}
+use Rattle.run.specs.Run.{within}
 use Rattle.history.specs.Look.{cellAt, both, overAt, beneathFive, tally, levelAt, levelFirst, unheard, widest}
 use Rattle.history.proofs.SheetsOfForests.{mapped-widest, subtree-siblings}
 use Rattle.history.proofs.Cells.{cellIn}

@@ -15,7 +15,7 @@ use Rattle.paper.specs.Columns.{Vec, covers}
 use Rattle.paper.specs.Rules.{Kind, never, live, removed, Row, Heard, news, rule, Cell, ruling}
 use Rattle.paper.specs.Acts.{own}
 use Rattle.laws.proofs.Bools.{and-both, not-so}
-use Rattle.history.specs.Knowledge.{sets, same, ruled, passed}
+use Rattle.run.specs.Knowledge.{sets, same, ruled, passed}
 use Rattle.history.specs.Vectors.{vectors}
 
 abbrev pub Set : Type 0

@@ -19,11 +19,11 @@ use Rattle.paper.specs.Calls.{Changed, Passed, eventNamed, choiceNamed}
 use Rattle.paper.specs.Widths.{Width, widthOf, tableAny, newAny, eventAny, passAny, settleAny, widenOf}
 use Rattle.laws.proofs.Widths.{width-either, widened}
 use Rattle.laws.proofs.Forests.{shape, mapped-mapped}
-use Rattle.history.specs.Knowledge.{sets}
+use Rattle.run.specs.Knowledge.{sets}
 use Rattle.history.specs.Vectors.{vectors}
-use Rattle.history.specs.World.{noRow, begin, eventful, passing, settling}
+use Rattle.run.specs.World.{noRow, begin, eventful, passing, settling}
 use Rattle.paper.specs.Devices.{devices}
-use Rattle.history.specs.Run.{Step, event, pass, settle, widen, State, replaced, within, begun, after, run, Makes}
+use Rattle.run.specs.Run.{Step, event, pass, settle, widen, State, replaced, within, begun, after, run, Makes}
 use Rattle.history.specs.Look.{cellAt}
 use Rattle.history.proofs.Cells.{cellIn, cell-table}
 use Rattle.history.proofs.WorldsAgree.{begin-inv}

@@ -16,7 +16,7 @@ use Rattle.paper.specs.Widths.{widthOf, tableAny, checkAny, eventAny, widenRefu
 use Rattle.laws.proofs.Calls.{event-number, pass-number, settle-number}
 use Rattle.laws.proofs.Refusals.{when-false}
 use Rattle.laws.proofs.Widths.{any-good, widen-number, two-any}
-use Rattle.history.specs.Run.{State, Without}
+use Rattle.run.specs.Run.{State, Without}
 use Rattle.history.proofs.CountersAhead.{early-later}
 use Rattle.history.proofs.RunInvariant.{Kept, there}
 

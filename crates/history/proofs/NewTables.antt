@@ -32,7 +32,7 @@ use Rattle.laws.proofs.Tables.{head-long}
 use Rattle.laws.proofs.Forests.{shape, folder-same, mapped-size}
 use Rattle.paper.specs.Widths.{Width, widthOf, tableAny, checkAny, newAny}
 use Rattle.laws.proofs.Widths.{width-checked, new-any}
-use Rattle.history.specs.World.{noRow}
+use Rattle.run.specs.World.{noRow}
 use Rattle.history.proofs.Bridge.{getD-two}
 use Rattle.history.proofs.Summaries.{least-most}
 

@@ -20,7 +20,7 @@ use Rattle.laws.proofs.Calls.{pass-number}
 use Rattle.laws.proofs.Refusals.{first-next, when-false, unless-so}
 use Rattle.laws.proofs.Forests.{shape, shape-size, shape-shaped}
 use Rattle.paper.specs.Devices.{devices}
-use Rattle.history.specs.Run.{State, Makes}
+use Rattle.run.specs.Run.{State, Makes}
 use Rattle.history.specs.Look.{cellAt}
 use Rattle.history.proofs.SheetsOfForests.{shape-folder}
 use Rattle.history.proofs.CountersAhead.{early-later}
@@ -30,7 +30,7 @@ use Rattle.history.proofs.EveryRun.{rows-planned}
 use Rattle.history.proofs.RunInvariant.{Kept, there, said-held}
 use Rattle.history.proofs.CallsAccepted.{pass-accepted}
 use Rattle.history.proofs.CellsFit.{rulings}
-use Rattle.history.specs.Knowledge.{sets}
+use Rattle.run.specs.Knowledge.{sets}
 use Rattle.paper.specs.Rules.{ruling, numberOf}
 
 -- a refusal by 8 and then by 9

@@ -21,10 +21,10 @@ use Rattle.paper.specs.Order.{parse, forestOf}
 use Rattle.paper.specs.Good.{rooted, GoodTable}
 use Rattle.laws.proofs.Widths.{any-passes, any-read}
 use Rattle.laws.proofs.Forests.{shape}
-use Rattle.history.specs.Knowledge.{Sort}
-use Rattle.history.specs.World.{World, next, tick, put}
+use Rattle.run.specs.Knowledge.{Sort}
+use Rattle.run.specs.World.{World, next, tick, put}
 use Rattle.paper.specs.Devices.{devices}
-use Rattle.history.specs.Run.{State, replaced}
+use Rattle.run.specs.Run.{State, replaced}
 use Rattle.history.specs.Look.{cellAt, both}
 use Rattle.history.proofs.Bridge.{Said}
 use Rattle.paper.specs.Calls.{isFolder}

@@ -22,11 +22,11 @@ use Rattle.paper.specs.Widths.{Width, widthOf, tableAny, widenOf}
 use Rattle.laws.proofs.Widths.{width-either, good-wider, Widened, widened}
 use Rattle.paper.specs.Good.{GoodTable}
 use Rattle.paper.specs.Calls.{Changed, Passed, newStamp, ticked, eventNamed, eventSheet, eventDone, pairAt, passDone, choiceNamed, settleSheet, settleDone}
-use Rattle.history.specs.Knowledge.{sets, passed}
+use Rattle.run.specs.Knowledge.{sets, passed}
 use Rattle.history.specs.Vectors.{vectors}
-use Rattle.history.specs.World.{World, next, tick, put, eventful, passing, settling}
+use Rattle.run.specs.World.{World, next, tick, put, eventful, passing, settling}
 use Rattle.paper.specs.Devices.{devices}
-use Rattle.history.specs.Run.{State, replaced, within}
+use Rattle.run.specs.Run.{State, replaced, within}
 use Rattle.history.specs.Look.{cellAt, both}
 use Rattle.history.proofs.CellsFit.{rulings}
 use Rattle.history.proofs.WorldsAgree.{event-inv, pass-inv, settle-inv}

@@ -25,10 +25,10 @@ use Rattle.paper.specs.Widths.{Width, widthOf, tableAny, checkAny, newAny, wide
 use Rattle.laws.proofs.Tables.{check-facts, checked-written}
 use Rattle.laws.proofs.Widths.{width-either, width-written, widened, widen-same, pass-any}
 use Rattle.laws.proofs.Forests.{shape}
-use Rattle.history.specs.Knowledge.{sets, passed}
+use Rattle.run.specs.Knowledge.{sets, passed}
 use Rattle.history.specs.Vectors.{vectors}
 use Rattle.paper.specs.Devices.{devices}
-use Rattle.history.specs.Run.{Step, State, within, Makes, ran, begun, Without, Was-made}
+use Rattle.run.specs.Run.{Step, State, within, Makes, ran, begun, Without, Was-made}
 use Rattle.history.specs.Look.{cellAt, both, overAt, beneathFive, tally, levelAt, unheard, widest}
 use Rattle.history.proofs.Bridge.{three}
 use Rattle.history.proofs.CallsAccepted.{pass-accepted, pass-at}

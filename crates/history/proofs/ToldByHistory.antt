@@ -24,8 +24,8 @@ use Rattle.paper.specs.Widths.{widthOf, tableAny, eventAny, twoWidths, settleAn
 use Rattle.laws.proofs.Calls.{event-number, settle-number, two-accepted}
 use Rattle.laws.proofs.Forests.{shape, mapped-here}
 use Rattle.laws.proofs.Refusals.{first-next, when-false, unless-so, unless-none}
-use Rattle.history.specs.Knowledge.{sets}
-use Rattle.history.specs.Run.{State, Makes, Was-made}
+use Rattle.run.specs.Knowledge.{sets}
+use Rattle.run.specs.Run.{State, Makes, Was-made}
 use Rattle.history.specs.Look.{cellAt}
 use Rattle.history.proofs.CallsAccepted.{Two-good, two-good, pair-left, pair-right}
 use Rattle.history.proofs.CellsFit.{rulings}

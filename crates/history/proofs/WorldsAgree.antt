@@ -11,9 +11,9 @@ use Rattle.paper.specs.declared.Stamp.{Stamp}
 use Rattle.paper.specs.Columns.{Vec}
 use Rattle.paper.specs.Rules.{Kind, never, live, removed, Row, Heard, news, rule, Cell, ruling}
 use Rattle.paper.specs.Acts.{Event, creates, changes, removes, isLive, fits, eventRow, Choice, theirs, own, new, stamps, birthOf, settleRow}
-use Rattle.history.specs.Knowledge.{Sort, sets}
+use Rattle.run.specs.Knowledge.{Sort, sets}
 use Rattle.history.specs.Vectors.{vectors}
-use Rattle.history.specs.World.{World, begin, next, tick, put, eventful, passing, settling}
+use Rattle.run.specs.World.{World, begin, next, tick, put, eventful, passing, settling}
 use Rattle.history.proofs.CellsFit.{Set, Stamped, Born, born-map, Fits, or-first, or-second, join-fits, take-fits}
 use Rattle.history.proofs.CellsFit.{stay-fits, passed-fits, same-refl, up, fresh, past-up, made-named, other-fits, self-fits}
 

@@ -13,11 +13,11 @@ use Rattle.paper.specs.Rules.{ruling, numberOf}
 use Rattle.paper.specs.Refusals.{first}
 use Rattle.paper.specs.Widths.{eventAny, passAny, settleAny, widenOf}
 use Rattle.paper.proofs.Computed.{computed}
-use Rattle.history.specs.Knowledge
-use Rattle.history.specs.World
-use Rattle.history.specs.Run
-use Rattle.history.specs.Knowledge.{sets}
-use Rattle.history.specs.Run.{Step, event, pass, settle, widen, State, begun, after, ran}
+use Rattle.run.specs.Knowledge
+use Rattle.run.specs.World
+use Rattle.run.specs.Run
+use Rattle.run.specs.Knowledge.{sets}
+use Rattle.run.specs.Run.{Step, event, pass, settle, widen, State, begun, after, ran}
 
 -- folders 0 and 1, sheets 2, 3 and 4
 plan : List ℕ

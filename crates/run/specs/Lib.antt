@@ -1,0 +1,3 @@
+pub mod Knowledge
+pub mod World
+pub mod Run

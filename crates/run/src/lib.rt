@@ -1,0 +1,1 @@
+// No code: runs of calls on words, with the history beside them.

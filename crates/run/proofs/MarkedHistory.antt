@@ -10,14 +10,13 @@ use mathlib.Core.Path.{_≡_, refl}
 use mathlib.Core.List.{List, [], _∷_, _++_, map}
 use lib.ListN.{replicate}
 use Rattle.paper.specs.Rules.{ruling, numberOf}
-use Rattle.paper.specs.Refusals.{first}
 use Rattle.paper.specs.Widths.{eventAny, passAny, settleAny, widenOf}
 use Rattle.paper.proofs.Computed.{computed}
 use Rattle.run.specs.Knowledge
 use Rattle.run.specs.World
 use Rattle.run.specs.Run
 use Rattle.run.specs.Knowledge.{sets}
-use Rattle.run.specs.Run.{Step, event, pass, settle, widen, State, begun, after, ran}
+use Rattle.run.specs.Run.{Step, event, pass, settle, widen, State, begun, after}
 
 -- folders 0 and 1, sheets 2, 3 and 4
 plan : List ℕ
@@ -40,96 +39,101 @@ whole a b = pass a b 0 (replicate 5 9)
 part : ℕ → ℕ → Step
 part a b = pass a b 1 (replicate 3 9)
 
--- the number of a call, and the first refusal of a run
+-- the number of a call
 number : State → Step → ℕ
 number s (event d row e m) = eventAny (s .tables d) row e m .number
 number s (pass a b row list) = passAny (s .tables a) (s .tables b) row list .number
 number s (settle a b row c m) = settleAny (s .tables a) (s .tables b) row c m .number
 number s (widen d wider) = widenOf (s .tables d) wider .number
 
-refused : State → List Step → ℕ
-refused s [] = 0
-refused s (x ∷ xs) = first (number s x ∷ refused (after s x) xs ∷ [])
+-- a run: calls, and between them what the history says of sheets 2, 3 and 4, from a source to a target; an aside is another way
+-- to go on
+data Play : Type 0 where
+  done : Play
+  does : Step → Play → Play
+  tells : ℕ → ℕ → List ℕ → Play → Play
+  aside : Play → Play → Play
 
--- the calls before, source and target, and what the history says of sheets 2, 3 and 4
-record Case : Type 0 where
-  before : List Step
-  source : ℕ
-  target : ℕ
-  sheets : List ℕ
+-- of each call its number, and what the history says
+told : State → Play → List (List ℕ)
+told s done = []
+told s (does x p) = (number s x ∷ []) ∷ told (after s x) p
+told s (tells a b said p) = map (λ y. numberOf (ruling (sets .knows) (s .past .cell a y) (s .past .cell b y))) (2 ∷ 3 ∷ 4 ∷ []) ∷ told s p
+told s (aside p q) = told s p ++ told s q
 
-record Told : Type 0 where
-  refusal : ℕ
-  numbers : List ℕ
+-- no call is refused, and the history says what is meant
+meant : Play → List (List ℕ)
+meant done = []
+meant (does x p) = (0 ∷ []) ∷ meant p
+meant (tells a b said p) = said ∷ meant p
+meant (aside p q) = meant p ++ meant q
 
-told : Case → Told
-told c =
-    let s = ran columns plan lent (c .before) in
-    record {
-      refusal = refused (begun columns plan lent) (c .before);
-      numbers = map (λ y. numberOf (ruling (sets .knows) (s .past .cell (c .source) y) (s .past .cell (c .target) y))) (2 ∷ 3 ∷ 4 ∷ []);
-    }
+-- C's conflict settled by theirs; by a new row, which is changed again; and on widened tables, from where device 9 goes on
+by-theirs : Play
+by-theirs = does (settle 0 1 2 1 0) (tells 1 0 (0 ∷ 0 ∷ 0 ∷ []) done)
 
-meant : Case → Told
-meant c = record { refusal = 0; numbers = c .sheets }
+by-new : Play
+by-new =
+    does (settle 0 1 2 3 703) (tells 0 1 (0 ∷ 0 ∷ 0 ∷ [])
+    (does (whole 1 0) (tells 1 0 (0 ∷ 0 ∷ 0 ∷ [])
+    (does (event 1 2 2 704) (tells 1 0 (1 ∷ 0 ∷ 0 ∷ []) done)))))
 
--- the calls before B; before C, which comes after B; before D; before K's first and second pass
-first-pass : List Step
-first-pass = event 0 2 1 700 ∷ whole 0 1 ∷ []
+widened : Play
+widened =
+    does (widen 1 wider) (does (widen 0 wider) (tells 0 1 (3 ∷ 0 ∷ 0 ∷ [])
+    (does (whole 0 1) (does (settle 0 1 2 3 703) (does (whole 1 9) (does (event 9 2 2 704)
+    (tells 9 1 (1 ∷ 0 ∷ 0 ∷ []) (tells 0 9 (0 ∷ 0 ∷ 0 ∷ []) done))))))))
 
-changed : List Step
-changed = first-pass ++ (whole 0 1 ∷ event 0 2 2 701 ∷ event 1 2 2 702 ∷ [])
+-- A, B, a change that is heard of, C, C told again, D and E
+A-to-E : Play
+A-to-E =
+    does (event 0 2 1 700) (tells 0 1 (1 ∷ 0 ∷ 0 ∷ [])
+    (does (whole 0 1) (tells 0 1 (0 ∷ 0 ∷ 0 ∷ [])
+    (does (whole 0 1) (does (event 0 2 2 701) (tells 0 1 (1 ∷ 0 ∷ 0 ∷ [])
+    (does (event 1 2 2 702) (tells 0 1 (3 ∷ 0 ∷ 0 ∷ [])
+    (aside by-theirs (aside by-new (aside widened
+    (does (whole 0 1) (tells 0 1 (3 ∷ 0 ∷ 0 ∷ [])
+    (does (settle 0 1 2 2 0) (tells 0 1 (0 ∷ 0 ∷ 0 ∷ [])
+    (does (whole 0 1) (tells 1 0 (1 ∷ 0 ∷ 0 ∷ []) done)))))))))))))))))
 
-settled : List Step
-settled = changed ++ (whole 0 1 ∷ settle 0 1 2 2 0 ∷ [])
+-- F and G; H; I; J; K
+F-to-G : Play
+F-to-G =
+    does (event 0 2 1 1) (does (event 0 4 1 2) (tells 0 1 (1 ∷ 0 ∷ 1 ∷ [])
+    (does (part 0 1) (tells 0 1 (0 ∷ 0 ∷ 1 ∷ []) (tells 1 0 (0 ∷ 0 ∷ 0 ∷ []) done)))))
 
-both-create : List Step
-both-create = event 0 2 1 1 ∷ event 1 2 1 2 ∷ []
+born-twice : Play
+born-twice =
+    does (event 0 2 1 1) (does (event 1 2 1 2) (does (event 1 2 3 0)
+    (tells 0 1 (1 ∷ 0 ∷ 0 ∷ []) (tells 1 0 (0 ∷ 0 ∷ 0 ∷ []) done))))
 
-two-born : List Step
-two-born = both-create ++ (whole 1 2 ∷ [])
+removed-while-changed : Play
+removed-while-changed =
+    does (event 0 2 1 700) (does (whole 0 1)
+    (aside (does (event 0 2 3 0) (tells 0 1 (2 ∷ 0 ∷ 0 ∷ []) done))
+    (does (event 0 2 2 1) (does (event 1 2 3 0) (tells 0 1 (3 ∷ 0 ∷ 0 ∷ []) done)))))
 
--- C's conflict on widened tables, settled there by a new row, which device 9 then takes and changes
-widened : List Step
-widened = changed ++ (widen 1 wider ∷ widen 0 wider ∷ whole 0 1 ∷ settle 0 1 2 3 703 ∷ whole 1 9 ∷ event 9 2 2 704 ∷ [])
+K : Play
+K =
+    does (event 0 2 1 1) (does (event 1 2 1 2) (tells 1 2 (1 ∷ 0 ∷ 0 ∷ [])
+    (does (whole 1 2) (tells 0 1 (3 ∷ 0 ∷ 0 ∷ [])
+    (does (whole 0 1) (does (settle 0 1 2 2 0) (tells 1 2 (0 ∷ 0 ∷ 0 ∷ [])
+    (does (whole 1 2) (tells 0 2 (0 ∷ 0 ∷ 0 ∷ []) done)))))))))
 
-cases : List Case
-cases =
-    record { before = event 0 2 1 700 ∷ []; source = 0; target = 1; sheets = 1 ∷ 0 ∷ 0 ∷ [] }
-    ∷ record { before = first-pass; source = 0; target = 1; sheets = 0 ∷ 0 ∷ 0 ∷ [] }
-    ∷ record { before = changed; source = 0; target = 1; sheets = 3 ∷ 0 ∷ 0 ∷ [] }
-    ∷ record { before = settled; source = 0; target = 1; sheets = 0 ∷ 0 ∷ 0 ∷ [] }
-    ∷ record { before = settled ++ (whole 0 1 ∷ []); source = 1; target = 0; sheets = 1 ∷ 0 ∷ 0 ∷ [] }
-    ∷ record { before = event 0 2 1 1 ∷ event 0 4 1 2 ∷ []; source = 0; target = 1; sheets = 1 ∷ 0 ∷ 1 ∷ [] }
-    ∷ record { before = event 0 2 1 1 ∷ event 0 4 1 2 ∷ part 0 1 ∷ []; source = 0; target = 1; sheets = 0 ∷ 0 ∷ 1 ∷ [] }
-    ∷ record { before = event 0 2 1 1 ∷ event 0 4 1 2 ∷ part 0 1 ∷ []; source = 1; target = 0; sheets = 0 ∷ 0 ∷ 0 ∷ [] }
-    ∷ record { before = event 0 2 1 1 ∷ event 1 2 1 2 ∷ event 1 2 3 0 ∷ []; source = 0; target = 1; sheets = 1 ∷ 0 ∷ 0 ∷ [] }
-    ∷ record { before = event 0 2 1 1 ∷ event 1 2 1 2 ∷ event 1 2 3 0 ∷ []; source = 1; target = 0; sheets = 0 ∷ 0 ∷ 0 ∷ [] }
-    ∷ record { before = first-pass ++ (event 0 2 2 1 ∷ event 1 2 3 0 ∷ []); source = 0; target = 1; sheets = 3 ∷ 0 ∷ 0 ∷ [] }
-    ∷ record { before = first-pass ++ (event 0 2 3 0 ∷ []); source = 0; target = 1; sheets = 2 ∷ 0 ∷ 0 ∷ [] }
-    ∷ record { before = both-create; source = 1; target = 2; sheets = 1 ∷ 0 ∷ 0 ∷ [] }
-    ∷ record { before = two-born; source = 0; target = 1; sheets = 3 ∷ 0 ∷ 0 ∷ [] }
-    ∷ record { before = two-born ++ (whole 0 1 ∷ settle 0 1 2 2 0 ∷ []); source = 1; target = 2; sheets = 0 ∷ 0 ∷ 0 ∷ [] }
-    ∷ record { before = two-born ++ (whole 0 1 ∷ settle 0 1 2 2 0 ∷ whole 1 2 ∷ []); source = 0; target = 2; sheets = 0 ∷ 0 ∷ 0 ∷ [] }
-    ∷ record { before = first-pass ++ (event 0 2 2 701 ∷ []); source = 0; target = 1; sheets = 1 ∷ 0 ∷ 0 ∷ [] }
-    ∷ record { before = changed ++ (settle 0 1 2 1 0 ∷ []); source = 1; target = 0; sheets = 0 ∷ 0 ∷ 0 ∷ [] }
-    ∷ record { before = changed ++ (settle 0 1 2 3 703 ∷ []); source = 0; target = 1; sheets = 0 ∷ 0 ∷ 0 ∷ [] }
-    ∷ record { before = changed ++ (settle 0 1 2 3 703 ∷ whole 1 0 ∷ event 1 2 2 704 ∷ []); source = 1; target = 0; sheets = 1 ∷ 0 ∷ 0 ∷ [] }
-    ∷ record { before = event 0 2 1 1 ∷ whole 0 2 ∷ event 0 2 3 0 ∷ whole 0 1 ∷ []; source = 1; target = 2; sheets = 2 ∷ 0 ∷ 0 ∷ [] }
-    ∷ record { before = changed ++ (whole 0 1 ∷ []); source = 0; target = 1; sheets = 3 ∷ 0 ∷ 0 ∷ [] }
-    ∷ record { before = changed ++ (settle 0 1 2 3 703 ∷ whole 1 0 ∷ []); source = 1; target = 0; sheets = 0 ∷ 0 ∷ 0 ∷ [] }
-    ∷ record { before = changed ++ (widen 1 wider ∷ widen 0 wider ∷ []); source = 0; target = 1; sheets = 3 ∷ 0 ∷ 0 ∷ [] }
-    ∷ record { before = widened; source = 9; target = 1; sheets = 1 ∷ 0 ∷ 0 ∷ [] }
-    ∷ record { before = widened; source = 0; target = 9; sheets = 0 ∷ 0 ∷ 0 ∷ [] }
-    ∷ []
+-- a removal that goes by way of a device that never had the sheet
+by-way : Play
+by-way =
+    does (event 0 2 1 1) (does (whole 0 2) (does (event 0 2 3 0) (does (whole 0 1) (tells 1 2 (2 ∷ 0 ∷ 0 ∷ []) done))))
+
+plays : Play
+plays = aside A-to-E (aside F-to-G (aside born-twice (aside removed-while-changed (aside K by-way))))
 
 -- the history's definitions, opened at once
 unfoldable happened : Unit {0}
 unfolding Knowledge.ruled Knowledge.passed World.begin World.next World.tick World.put World.eventful World.passing World.settling Run.within Run.begun Run.after Run.run
 happened = tt
 
--- A to K; then a change after A, C's conflict told again, C's conflict settled by theirs and by a new row, and a removal that
--- goes by way of a device that never had the sheet; and tables that are widened on the way
-marked : map told cases ≡ map meant cases
-unfolding plan columns lent wider whole part number refused told meant first-pass changed settled both-create two-born widened cases computed happened
+-- A to K, a change after B, C's conflict settled in each way, a removal by way of another device, and tables that are widened
+marked : told (begun columns plan lent) plays ≡ meant plays
+unfolding plan columns lent wider whole part number told meant plays A-to-E by-theirs by-new widened F-to-G born-twice removed-while-changed K by-way computed happened
 marked = refl

@@ -2,13 +2,13 @@
 -- clock afterwards, the row's first sixteen words (its floor is the last eight of them), and the table's check.
 use Prim.Native.Nat.{ℕ}
 use mathlib.Core.Path.{_≡_, refl}
-use mathlib.Core.List.{List, [], _∷_}
+use mathlib.Core.List.{List, [], _∷_, _++_}
 use lib.ListN.{take}
 use Rattle.paper.specs.Words.{tableOf}
 use Rattle.paper.specs.Check.{checkOf}
 use Rattle.paper.specs.Calls.{Changed, rowAt}
 use Rattle.paper.specs.Widths.{eventAny, settleAny}
-use Rattle.paper.proofs.Play.{Step, event, pass, narrow, table, play, played}
+use Rattle.paper.proofs.Play.{Step, event, pass, Desk, narrow, table, play, played}
 
 record Outcome : Type 0 where
   number : ℕ
@@ -27,13 +27,13 @@ seen row o = record {
   check = checkOf 8 (o .table);
 }
 
--- device 0's event e at row 2 after some steps
-worked : List Step → ℕ → ℕ → Outcome
-worked before e mark = seen 2 (eventAny (table (play narrow before) 0) 2 e mark)
+-- device 0's event e at row 2
+worked : Desk → ℕ → ℕ → Outcome
+worked k e mark = seen 2 (eventAny (table k 0) 2 e mark)
 
 -- device 1 settles its conflict with device 0 at row 2
-settled : List Step → ℕ → ℕ → Outcome
-settled before choice mark = let k = play narrow before in seen 2 (settleAny (table k 0) (table k 1) 2 choice mark)
+settled : Desk → ℕ → ℕ → Outcome
+settled k choice mark = seen 2 (settleAny (table k 0) (table k 1) 2 choice mark)
 
 -- an accepted call
 accepted : ℕ → ℕ → List ℕ → Outcome
@@ -55,18 +55,18 @@ target-removed = event 0 2 1 700 ∷ pass 0 1 0 ∷ event 0 2 2 701 ∷ event 1 
 created-both : List Step
 created-both = event 0 2 1 703 ∷ event 1 2 1 704 ∷ []
 
+-- a sheet that is there is changed, and removed; a conflict is settled by theirs, by own and by a new row
+goes-on : Desk → List Outcome
+goes-on k = worked k 2 701 ∷ worked k 3 702 ∷ []
+
+each-choice : Desk → List Outcome
+each-choice k = settled k 1 705 ∷ settled k 2 705 ∷ settled k 3 705 ∷ []
+
 outcomes : List Outcome
 outcomes =
-    worked [] 1 700
-    ∷ worked created 2 701
-    ∷ worked created 3 702
-    ∷ worked removed 1 703
-    ∷ settled changed-both 1 705
-    ∷ settled changed-both 2 705
-    ∷ settled changed-both 3 705
-    ∷ settled target-removed 3 706
-    ∷ settled created-both 3 707
-    ∷ []
+    (worked narrow 1 700 ∷ goes-on (play narrow created))
+    ++ (worked (play narrow removed) 1 703 ∷ each-choice (play narrow changed-both))
+    ++ (settled (play narrow target-removed) 3 706 ∷ settled (play narrow created-both) 3 707 ∷ [])
 
 meant : List Outcome
 meant =
@@ -85,5 +85,5 @@ meant =
 
 -- EVENTS AND SETTLINGS
 acts : outcomes ≡ meant
-unfolding outcomes meant accepted worked settled seen created removed changed-both target-removed created-both played
+unfolding outcomes goes-on each-choice meant accepted worked settled seen created removed changed-both target-removed created-both played
 acts = refl

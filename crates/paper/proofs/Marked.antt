@@ -11,8 +11,8 @@ use Rattle.paper.specs.Tree.{end, sheet, folder, Tree, level}
 use Rattle.paper.specs.Words.{Table, floorAt}
 use Rattle.paper.specs.Widths.{tableAny, checkAny}
 use Rattle.paper.specs.Refusals.{first}
-use Rattle.paper.specs.Calls.{rowAt}
-use Rattle.paper.proofs.Play.{Step, event, pass, settle, fresh, table, passed, play, played}
+use Rattle.paper.specs.Calls.{Passed, rowAt}
+use Rattle.paper.proofs.Play.{Step, event, pass, settle, Desk, fresh, table, passed, received, step, played}
 
 -- a row's floor in the column of a device, the first, second or third of those that play
 record Floor : Type 0 where
@@ -20,25 +20,25 @@ record Floor : Type 0 where
   column : ℕ
   holds : ℕ
 
--- the steps before a pass, the pass, and what the paper says of it; the lists hold what it says, and may be empty
-record Case : Type 0 where
-  before : List Step
-  source : ℕ
-  target : ℕ
-  start : ℕ
+-- what the paper says of a pass; the lists hold what it says, and may be empty
+record Says : Type 0 where
   answers : List ℕ
   looked : List ℕ
   floors : List Floor
   rootLevel : List Bool
 
--- what is compared
+-- what is compared: besides, no call is refused, and the target's check afterwards is 0
 record Said : Type 0 where
   number : ℕ
   check : ℕ
-  answers : List ℕ
-  looked : List ℕ
-  floors : List Floor
-  rootLevel : List Bool
+  says : Says
+
+-- a run: steps, passes of which the paper speaks, from a source to a target at a row, and asides: other ways to go on
+data Play : Type 0 where
+  done : Play
+  does : Step → Play → Play
+  passes : ℕ → ℕ → ℕ → Says → Play → Play
+  aside : Play → Play → Play
 
 -- is the root of a table level?
 root-level : Table → Tree → Bool
@@ -46,138 +46,118 @@ root-level t end = false
 root-level t (sheet s r) = false
 root-level t (folder f k r) = level 16 (t .clock) zeros f k
 
--- the outcome with w columns and these devices, as far as the case speaks of it
-said : ℕ → List ℕ → Case → Said
-said w devices c =
-    let k = play (fresh w devices) (c .before) in
-    let o = passed k (c .source) (c .target) (c .start) in
-    let a = tableAny (table k (c .source)) in
-    record {
-      number = first (k .refused ∷ o .number ∷ []);
-      check = checkAny (o .target);
-      answers = o .answers;
-      looked = map (λ n. o .count) (c .looked);
-      floors = map (λ f. record { row = f .row; column = f .column; holds = part w floorAt (rowAt w (o .target) (f .row)) (getD devices (f .column) 0) }) (c .floors);
-      rootLevel = map (λ b. root-level a (a .tree)) (c .rootLevel);
-    }
+-- the outcome of a pass o, as far as the paper speaks of it; a is the source's table
+seen : ℕ → List ℕ → ℕ → Table → Passed → Says → Said
+seen w devices refused a o x = record {
+  number = first (refused ∷ o .number ∷ []);
+  check = checkAny (o .target);
+  says = record {
+    answers = o .answers;
+    looked = map (λ n. o .count) (x .looked);
+    floors = map (λ f. record { row = f .row; column = f .column; holds = part w floorAt (rowAt w (o .target) (f .row)) (getD devices (f .column) 0) }) (x .floors);
+    rootLevel = map (λ b. root-level a (a .tree)) (x .rootLevel);
+  };
+}
+
+-- with w columns and these devices
+module _ (w : ℕ) (devices : List ℕ) where
+  said : Desk → Play → List Said
+  said k done = []
+  said k (does x p) = said (step k x) p
+  said k (passes a b row x p) =
+      let o = passed k a b row in
+      seen w devices (k .refused) (tableAny (table k a)) o x ∷ said (received k b o) p
+  said k (aside p q) = said k p ++ said k q
 
 -- what the paper says
-meant : Case → Said
-meant c = record { number = 0; check = 0; answers = c .answers; looked = c .looked; floors = c .floors; rootLevel = c .rootLevel }
+meant : Play → List Said
+meant done = []
+meant (does x p) = meant p
+meant (passes a b row x p) = record { number = 0; check = 0; says = x } ∷ meant p
+meant (aside p q) = meant p ++ meant q
 
--- a case of which the paper gives the list alone, and one with the count too
-list : List Step → ℕ → ℕ → ℕ → List ℕ → Case
-list steps a b row says =
-    record { before = steps; source = a; target = b; start = row; answers = says; looked = []; floors = []; rootLevel = [] }
+-- a pass of which the paper gives the list alone, and one with the count too
+list : List ℕ → Says
+list xs = record { answers = xs; looked = []; floors = []; rootLevel = [] }
 
-count : List Step → ℕ → ℕ → ℕ → List ℕ → ℕ → Case
-count steps a b row says n =
-    record { before = steps; source = a; target = b; start = row; answers = says; looked = n ∷ []; floors = []; rootLevel = [] }
+count : List ℕ → ℕ → Says
+count xs n = record { answers = xs; looked = n ∷ []; floors = []; rootLevel = [] }
 
-created : List Step
-created = event 0 2 1 700 ∷ []
+holds : ℕ → ℕ → ℕ → Floor
+holds row column n = record { row = row; column = column; holds = n }
 
--- after A; after B with both changing row 2; after C with device 1 settling own
-after-A : List Step
-after-A = created ++ (pass 0 1 0 ∷ [])
-
-before-C : List Step
-before-C = after-A ++ (pass 0 1 0 ∷ event 0 2 2 701 ∷ event 1 2 2 702 ∷ [])
-
-before-D : List Step
-before-D = before-C ++ (pass 0 1 0 ∷ settle 0 1 2 2 0 ∷ [])
-
-before-F : List Step
-before-F = event 0 2 1 703 ∷ event 0 4 1 704 ∷ []
-
-after-F : List Step
-after-F = before-F ++ (pass 0 1 1 ∷ [])
-
-before-H : List Step
-before-H = event 0 2 1 705 ∷ event 1 2 1 706 ∷ event 1 2 3 0 ∷ []
-
-before-K : List Step
-before-K = event 0 2 1 707 ∷ event 1 2 1 708 ∷ []
-
-settled-K : List Step
-settled-K = before-K ++ (pass 1 2 0 ∷ pass 0 1 0 ∷ settle 0 1 2 2 0 ∷ [])
-
-case-A : Case
-case-A = record {
-  before = created;
-  source = 0;
-  target = 1;
-  start = 0;
+says-A : Says
+says-A = record {
   answers = 4 ∷ 4 ∷ 1 ∷ 0 ∷ 0 ∷ [];
   looked = 5 ∷ [];
-  floors = record { row = 2; column = 0; holds = 1 } ∷ record { row = 3; column = 0; holds = 1 } ∷ record { row = 4; column = 0; holds = 1 } ∷ [];
+  floors = holds 2 0 1 ∷ holds 3 0 1 ∷ holds 4 0 1 ∷ [];
   rootLevel = [];
 }
-
-case-E : Case
-case-E = list (before-D ++ (pass 0 1 0 ∷ [])) 1 0 0 (4 ∷ 4 ∷ 1 ∷ 0 ∷ 0 ∷ [])
 
 -- the source's root isn't level
-case-G : Case
-case-G = record {
-  before = after-F;
-  source = 1;
-  target = 0;
-  start = 0;
-  answers = 4 ∷ 5 ∷ 0 ∷ 0 ∷ 0 ∷ [];
-  looked = [];
-  floors = [];
-  rootLevel = false ∷ [];
-}
+says-G : Says
+says-G = record { answers = 4 ∷ 5 ∷ 0 ∷ 0 ∷ 0 ∷ []; looked = []; floors = []; rootLevel = false ∷ [] }
 
--- K's third pass, and its last
-case-K : Case
-case-K = record {
-  before = settled-K;
-  source = 1;
-  target = 2;
-  start = 0;
-  answers = 5 ∷ 5 ∷ 0 ∷ 0 ∷ 0 ∷ [];
-  looked = [];
-  floors = record { row = 0; column = 0; holds = 1 } ∷ record { row = 0; column = 1; holds = 1 } ∷ [];
-  rootLevel = [];
-}
+-- K's third pass
+says-K : Says
+says-K = record { answers = 5 ∷ 5 ∷ 0 ∷ 0 ∷ 0 ∷ []; looked = []; floors = holds 0 0 1 ∷ holds 0 1 1 ∷ []; rootLevel = [] }
 
-last-K : Case
-last-K = list (settled-K ++ (pass 1 2 0 ∷ [])) 0 2 0 (5 ∷ 5 ∷ 0 ∷ 0 ∷ 0 ∷ [])
+-- after A: I and J
+I : Play
+I = does (event 0 2 2 709) (does (event 1 2 3 0) (passes 0 1 0 (list (4 ∷ 4 ∷ 3 ∷ 0 ∷ 0 ∷ [])) done))
 
-cases : List Case
-cases =
-    case-A ∷
-    -- B, C, D
-    count after-A 0 1 0 (5 ∷ 5 ∷ 0 ∷ 0 ∷ 0 ∷ []) 1 ∷
-    list before-C 0 1 0 (4 ∷ 4 ∷ 3 ∷ 0 ∷ 0 ∷ []) ∷
-    list before-D 0 1 0 (5 ∷ 5 ∷ 0 ∷ 0 ∷ 0 ∷ []) ∷
-    case-E ∷
-    -- F: at row 1, then at row 0
-    list before-F 0 1 1 (4 ∷ 1 ∷ 0 ∷ []) ∷
-    count after-F 0 1 0 (4 ∷ 5 ∷ 0 ∷ 0 ∷ 1 ∷ []) 3 ∷
-    case-G ∷
-    -- H both ways, I, J
-    list before-H 0 1 0 (4 ∷ 4 ∷ 1 ∷ 0 ∷ 0 ∷ []) ∷
-    list before-H 1 0 0 (4 ∷ 4 ∷ 0 ∷ 0 ∷ 0 ∷ []) ∷
-    list (after-A ++ (event 0 2 2 709 ∷ event 1 2 3 0 ∷ [])) 0 1 0 (4 ∷ 4 ∷ 3 ∷ 0 ∷ 0 ∷ []) ∷
-    list (after-A ++ (event 0 2 3 0 ∷ [])) 0 1 0 (4 ∷ 4 ∷ 2 ∷ 0 ∷ 0 ∷ []) ∷
-    -- K, its four passes; and the last one started at row 1
-    list before-K 1 2 0 (4 ∷ 4 ∷ 1 ∷ 0 ∷ 0 ∷ []) ∷
-    list (before-K ++ (pass 1 2 0 ∷ [])) 0 1 0 (4 ∷ 4 ∷ 3 ∷ 0 ∷ 0 ∷ []) ∷
-    case-K ∷
-    last-K ∷
-    list (settled-K ++ (pass 1 2 0 ∷ [])) 0 2 1 (5 ∷ 0 ∷ 0 ∷ []) ∷
-    -- besides A to K: a removal that reaches a device by another than it was made on
-    list (event 0 2 1 700 ∷ pass 0 2 0 ∷ event 0 2 3 0 ∷ pass 0 1 0 ∷ []) 1 2 0 (4 ∷ 4 ∷ 2 ∷ 0 ∷ 0 ∷ []) ∷
-    []
+J : Play
+J = does (event 0 2 3 0) (passes 0 1 0 (list (4 ∷ 4 ∷ 2 ∷ 0 ∷ 0 ∷ [])) done)
+
+B-to-E : Play
+B-to-E =
+    passes 0 1 0 (count (5 ∷ 5 ∷ 0 ∷ 0 ∷ 0 ∷ []) 1)
+    (does (event 0 2 2 701) (does (event 1 2 2 702) (passes 0 1 0 (list (4 ∷ 4 ∷ 3 ∷ 0 ∷ 0 ∷ []))
+    (does (settle 0 1 2 2 0) (passes 0 1 0 (list (5 ∷ 5 ∷ 0 ∷ 0 ∷ 0 ∷ []))
+    (passes 1 0 0 (list (4 ∷ 4 ∷ 1 ∷ 0 ∷ 0 ∷ [])) done))))))
+
+A-then : Play → Play
+A-then p = does (event 0 2 1 700) (passes 0 1 0 says-A p)
+
+-- F at row 1, then at row 0; G beside it
+F-and-G : Play
+F-and-G =
+    does (event 0 2 1 703) (does (event 0 4 1 704) (passes 0 1 1 (list (4 ∷ 1 ∷ 0 ∷ []))
+    (aside (passes 1 0 0 says-G done) (passes 0 1 0 (count (4 ∷ 5 ∷ 0 ∷ 0 ∷ 1 ∷ []) 3) done))))
+
+-- H both ways
+H : Play
+H =
+    does (event 0 2 1 705) (does (event 1 2 1 706) (does (event 1 2 3 0)
+    (aside (passes 0 1 0 (list (4 ∷ 4 ∷ 1 ∷ 0 ∷ 0 ∷ [])) done) (passes 1 0 0 (list (4 ∷ 4 ∷ 0 ∷ 0 ∷ 0 ∷ [])) done))))
+
+-- K, its four passes; the last one started at row 1 beside it
+K : Play
+K =
+    does (event 0 2 1 707) (does (event 1 2 1 708) (passes 1 2 0 (list (4 ∷ 4 ∷ 1 ∷ 0 ∷ 0 ∷ []))
+    (passes 0 1 0 (list (4 ∷ 4 ∷ 3 ∷ 0 ∷ 0 ∷ [])) (does (settle 0 1 2 2 0) (passes 1 2 0 says-K
+    (aside (passes 0 2 1 (list (5 ∷ 0 ∷ 0 ∷ [])) done) (passes 0 2 0 (list (5 ∷ 5 ∷ 0 ∷ 0 ∷ 0 ∷ [])) done)))))))
+
+-- besides A to K: a removal that reaches a device by another than it was made on
+by-way : Play
+by-way =
+    does (event 0 2 1 700) (does (pass 0 2 0) (does (event 0 2 3 0) (does (pass 0 1 0)
+    (passes 1 2 0 (list (4 ∷ 4 ∷ 2 ∷ 0 ∷ 0 ∷ [])) done))))
+
+plays : Play
+plays = aside (A-then (aside I (aside J B-to-E))) (aside F-and-G (aside H (aside K by-way)))
 
 -- those that are played with sixteen columns too, where the third device has a column of a narrow table
-few : List Case
-few = case-A ∷ case-E ∷ case-G ∷ case-K ∷ last-K ∷ []
+wide-plays : Play
+wide-plays = aside (A-then B-to-E) (aside F-and-G K)
+
+narrow-three : List ℕ
+narrow-three = 0 ∷ 1 ∷ 2 ∷ []
+
+wide-three : List ℕ
+wide-three = 15 ∷ 8 ∷ 3 ∷ []
 
 -- A TO K
-marked : map (said 8 (0 ∷ 1 ∷ 2 ∷ [])) cases ++ map (said 16 (15 ∷ 8 ∷ 3 ∷ [])) few ≡ map meant (cases ++ few)
-unfolding said meant cases few case-A case-E case-G case-K last-K list count created after-A before-C before-D before-F after-F before-H before-K settled-K root-level played
+marked : said 8 narrow-three (fresh 8 narrow-three) plays ++ said 16 wide-three (fresh 16 wide-three) wide-plays ≡ meant plays ++ meant wide-plays
+unfolding root-level seen said meant list count holds says-A says-G says-K I J B-to-E A-then F-and-G H K by-way plays wide-plays narrow-three wide-three played
 marked = refl

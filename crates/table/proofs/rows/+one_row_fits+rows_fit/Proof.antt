@@ -107,16 +107,19 @@ row-returns t c =
 
 pub +one-row-fits+rows-fit-spec : {M : Type 1} → statement M
 +one-row-fits+rows-fit-spec = close μ-one μ-all (λ t. one-lts.spec (one-given t) (one-of t) one.Post
-    (λ c. let s : One t = search in let h = cut t s in omega arith) (λ c. let s : One t = search in let h = cut t s in omega arith) (λ c. let s : One t = search in let h = cut t s in omega arith) (λ c. let s : One t = search in let h = cut t s in sym (h .row))
+    (λ c. let s : One t = search in let h = cut t s in omega arith) (λ c. let s : One t = search in let h = cut t s in omega arith)
+    (λ c. let s : One t = search in let h = cut t s in omega arith) (λ c. let s : One t = search in let h = cut t s in sym (h .row))
     (λ c κs. let s : One t = search in let h = cut t s in (s .pre .1 .1 .1, (h .row, s .pre .1 .1 .0)))
     (λ c. let s : One t = search in let k : one-lts.Then1 (one-given t) (one-of t) one.Post = search in c .sheet-fits .ensures ∙ sheet-fit _ _ (s .pre .1 .0) _ _ (k .if1 .taken))
     (λ c κs. let s : One t = search in let h = cut t s in (h .few, omega arith)) (λ c κs. search needs)
-    (λ c. let s : One t = search in let h = cut t s in omega arith) (λ c. let s : One t = search in let h = cut t s in h .long) (λ c. let s : One t = search in let h = cut t s in h .long) (λ c. search needs)
+    (λ c. let s : One t = search in let h = cut t s in omega arith) (λ c. let s : One t = search in let h = cut t s in h .long)
+    (λ c. let s : One t = search in let h = cut t s in h .long) (λ c. search needs)
     (λ c κs. let s : One t = search in let h = cut t s in (omega (arith, h .rest, s .pre .0), (under-order _ _ (s .pre .1 .0), s .pre .1 .1)))
     (λ c. let s : One t = search in let k : Folder t = search in let r : one-lts.After-read (one-given t) (one-of t) one.Post = search in
     let g : one-lts.After-greatest (one-given t) (one-of t) one.Post = search in
     sym (folder-broken _ _ (s .pre .1 .0) _ _ (k .if1 .left) (r .read .ensures) (g .greatest .ensures) (sym (c .before .rows-fit .ensures) ∙ not-true _ (c .if2 .taken))))
-    (λ c. let s : One t = search in let h = cut t s in omega arith) (λ c. let s : One t = search in let h = cut t s in h .long) (λ c. let s : One t = search in let h = cut t s in h .long) (λ c. search needs)
+    (λ c. let s : One t = search in let h = cut t s in omega arith) (λ c. let s : One t = search in let h = cut t s in h .long)
+    (λ c. let s : One t = search in let h = cut t s in h .long) (λ c. search needs)
     (λ c κs. let s : One t = search in let h = cut t s in let f : Fits t = search in
     (s .pre .1 .1 .1, fit-told _ (h .some) _ _ _ (under-order _ _ (s .pre .1 .0)) (sym (f .before .rows-fit .ensures) ∙ not-false _ (f .if2 .left)) .siblings))
     (λ c. let s : One t = search in let h = cut t s in sym (h .row)) (λ c κs. let s : One t = search in let h = cut t s in (s .pre .1 .1 .1, (h .row, s .pre .1 .1 .0)))

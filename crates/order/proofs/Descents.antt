@@ -33,9 +33,10 @@ module _ (n : ℕ) (wide : 1 < n) (lv : ℕ) (t : List ℕ) (h : 0 < length t) (
   pub under-size : suc (size (forestOf n (beneath n t))) ≡ sizeWord t
   under-size =
       let k = forestOf n (beneath n t) in
-      cancel n (omega arith) (suc (size k)) (sizeWord t)
-      (suc-mul (size k) n
-      ∙ omega (arith, formed-length n (lv - 1) k (ordered-formed n wide (lv - 1) (beneath n t) (step .beneath)), ap length (ordered-words n wide (lv - 1) (beneath n t) (step .beneath)), beneath-length n lv t (step .fits), row-room n lv t (step .fits)))
+      let f = step .fits in
+      let l = formed-length n (lv - 1) k (ordered-formed n wide (lv - 1) (beneath n t) (step .beneath)) in
+      let e = ap length (ordered-words n wide (lv - 1) (beneath n t) (step .beneath)) in
+      cancel n (omega arith) (suc (size k)) (sizeWord t) (suc-mul (size k) n ∙ omega (arith, l, e, beneath-length n lv t f, row-room n lv t f))
 
   -- a row beneath the first: the first is a folder
   pub folder-kind : 1 < sizeWord t → kindWord t ≡ 3

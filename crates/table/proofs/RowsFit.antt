@@ -15,7 +15,9 @@ use Rattle.paper.specs.Check.{sheetFits, folderFits, rowsFit}
 use Rattle.laws.proofs.FormedRows.{ordered-formed}
 use Rattle.laws.proofs.Order.{ordered-facts, row-room}
 use Rattle.laws.proofs.Check.{rows-back, rows-good}
-use Rattle.vector.proofs.Parts.{tail-part}
+use Rattle.paper.specs.Widths.{Width}
+use Rattle.laws.proofs.Widths.{width-few}
+use Rattle.vector.proofs.Parts.{tail-part, tail-length, none-rows}
 use Rattle.summary.specs.Sums.{sumsOf, stored, Siblings}
 use Rattle.summary.proofs.Narrow.{good-fine}
 use Rattle.summary.proofs.RowsSay.{stored-sums, rows-named}
@@ -55,10 +57,27 @@ module _ (w : ℕ) (c : Clock) (u : Vec) (r : List ℕ) where
   unfolding rowsFit
   above k = ap (λ b. folderFits w c r (treeFrom w k) && b) (and-true (rowsFit w c k (greatest u (floorOf w r))))
 
+-- a row cut in its own words and those of the rows beneath it
+pub record Cut (w : ℕ) (t : List ℕ) : Type 0 where
+  pub some : 0 < w
+  pub few : w ≤ 16
+  pub long : wide w ≤ length t
+  pub row : length (take (wide w) t) ≡ wide w
+  pub rest : length (take (length t - wide w) (drop (wide w) t)) ≡ length t - wide w
+
 -- one row with all beneath it
 module _ (w : ℕ) (t : List ℕ) (q : OneRow w t) where
-  pub row-long : wide w ≤ length t
+  row-long : wide w ≤ length t
   row-long = let s = ordered-facts (wide w) (omega arith) (q .levels) t (q .some) (q .order) in omega (arith, s .fits .room, row-room (wide w) (q .levels) t (s .fits))
+
+  pub row-cut : {d : ℕ} → d < w → Width w → Cut w t
+  row-cut h b = record {
+    some = omega arith;
+    few = width-few w b;
+    long = row-long;
+    row = length-take-le (wide w) t row-long;
+    rest = tail-length (wide w) t;
+  }
 
   -- the rows beneath it, as they are cut
   abbrev pub under : List ℕ
@@ -149,3 +168,8 @@ module _ (w : ℕ) (t : List ℕ) (at : ℕ) (l : at < length t) (q : InOrder w 
 
     pub rows-next : rowsFit w c (forestOf (wide w) partAt) u ≡ true → rowsFit w c (forestOf (wide w) (drop at t)) u ≡ rowsFit w c (forestOf (wide w) (drop (next (wide w) t at) t)) u
     rows-next e = rows-step ∙ rw e
+
+-- no siblings
+pub rows-none : (w : ℕ) (c : Clock) (t : List ℕ) (u : Vec) → length t ≡ 0 → rowsFit w c (forestOf (wide w) t) u ≡ true
+unfolding rowsFit
+rows-none w c t u z = rw (none-rows (wide w) t z)

@@ -64,7 +64,9 @@ module _ (w : ℕ) (a b : Clock) (ua ub : Vec) where
         ∙ ap (λ (y : List ℕ). cond (takes r) (takenFrom (sheetA x p q) y) y) (sheet-floored w (x .b) f q)
         ∙ go (takes r) f
       where
-        go : (k : Bool) (f : Vec) → cond k (takenFrom (sheetA x p q) (sheetWords w (record { row = x .b .row; floor = f }) ++ q)) (sheetWords w (record { row = x .b .row; floor = f }) ++ q) ≡ sheetWords w (record { row = cond k (x .a .row) (x .b .row); floor = f }) ++ q
+        go : (k : Bool) (f : Vec)
+            → cond k (takenFrom (sheetA x p q) (sheetWords w (record { row = x .b .row; floor = f }) ++ q)) (sheetWords w (record { row = x .b .row; floor = f }) ++ q)
+            ≡ sheetWords w (record { row = cond k (x .a .row) (x .b .row); floor = f }) ++ q
         go true f = sheet-taken w (x .a) (record { row = x .b .row; floor = f }) p q
         go false f = refl
 

@@ -1,6 +1,6 @@
 // The row of a folder.
 use crate::narrow;
-use crate::silence::silence;
+use crate::silence::answer_silently;
 use crate::wide;
 use paper::Clock;
 use vector::Vector;
@@ -61,6 +61,6 @@ pub fn over_row(
     requires { ⌜ Rows columns (now s) (now t) a b × (length (now s) ≡ length (now answers) * wide columns) × Width columns ⌝ }
     ensures { λ _. ⌜ OverDone columns a b (vec (ua .0)) (now (s .entry)) (now (t .entry)) (now (t .exit)) (now (answers .entry)) (now (answers .exit)) ⌝ }
 {
-    silence(s, answers, Row::FLOOR + 4 * columns);
+    answer_silently(s, answers, Row::FLOOR + 4 * columns);
     raise_folder(s, t, a, b, ua, columns);
 }

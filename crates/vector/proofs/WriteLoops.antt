@@ -13,7 +13,7 @@ use lib.ListN.{length, getD, take, set, length-set, List·getD-eq-default}
 use lib.Seq.{ext-getD, getD-set-same, getD-set-other, take-suc, take-suc-set}
 use Rattle.paper.specs.Columns.{Vec, vec, columns}
 use Rattle.laws.proofs.Columns.{length-columns, columns-at}
-use Rattle.vector.specs.Places.{pickOf}
+use Rattle.vector.specs.Places.{extremeOf}
 
 -- a is what f says up to place i, and what stood in a₀ from i on
 pub record Upto (f : Vec) (a₀ a : List ℕ) (i : ℕ) : Type 0 where
@@ -69,9 +69,9 @@ upto-columns {f} {a₀} {a} {i} u l =
     (λ k lk. let h : k < length a₀ = omega (arith, u .long) in u .done k (omega arith) ∙ sym (columns-at (length a₀) f k h))
 
 -- of two zeros
-pub pick-none : {a b : ℕ} (most : Bool) → a ≡ 0 → b ≡ 0 → pickOf most a b ≡ 0
-pick-none true e f = omega arith
-pick-none false e f = omega arith
+pub extreme-none : {a b : ℕ} (most : Bool) → a ≡ 0 → b ≡ 0 → extremeOf most a b ≡ 0
+extreme-none true e f = omega arith
+extreme-none false e f = omega arith
 
 -- one place more is copied
 pub copy-step : (a b : List ℕ) (i : ℕ) → i < length a → i < length b → take i a ≡ take i b → take (i + 1) (set a i (getD b i 0)) ≡ take (i + 1) b

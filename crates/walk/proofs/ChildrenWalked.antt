@@ -34,10 +34,14 @@ module _ (w : ℕ) (a b : Clock) (da : a .device < w) (db : b .device < w) where
   pub fine-walk : (p : Pair) (ua ub : Vec) → Narrow w ua → Fine w (left p) → Fine w (right p) → Fine w (walk w a b p ua ub)
   unfolding walk mapped ruled
   fine-walk end ua ub nu f g = tt
-  fine-walk (sheet x r) ua ub nu f g =
-      (fine-floor (joins (ruleAt a b ua ub x)) (raised-narrow a b da db (g .0) nu (f .0)) (g .0), fine-row (takes (ruleAt a b ua ub x)) (x .a .row) (x .b .row) (f .1) (g .1), fine-walk r ua ub nu (f .2) (g .2))
+  fine-walk (sheet x r) ua ub nu f g = (
+    fine-floor (joins (ruleAt a b ua ub x)) (raised-narrow a b da db (g .0) nu (f .0)) (g .0),
+    fine-row (takes (ruleAt a b ua ub x)) (x .a .row) (x .b .row) (f .1) (g .1),
+    fine-walk r ua ub nu (f .2) (g .2),
+  )
   fine-walk (folder y k r) ua ub nu f g =
-      go (over w a b ua ub y k) (walk w a b k (greatest ua (y .a)) (greatest ub (y .b))) (walk w a b r ua ub) (fine-walk k (greatest ua (y .a)) (greatest ub (y .b)) (narrow-greatest nu (f .0)) (f .1) (g .1)) (fine-walk r ua ub nu (f .2) (g .2))
+      go (over w a b ua ub y k) (walk w a b k (greatest ua (y .a)) (greatest ub (y .b))) (walk w a b r ua ub)
+      (fine-walk k (greatest ua (y .a)) (greatest ub (y .b)) (narrow-greatest nu (f .0)) (f .1) (g .1)) (fine-walk r ua ub nu (f .2) (g .2))
     where
       go : (o : Bool) (l m : Tree) → Fine w l → Fine w m → Fine w (cond o (folder (raised b (y .b) (fullLeast a ua (y .a) (left k))) (right k) m) (folder (y .b) l m))
       go true l m hl hm = (raised-narrow a b da db (g .0) nu (option-greatest w (y .a) (smallestOf (left k)) (f .0) (fine-least w (left k) (f .1))), g .1, hm)

@@ -106,7 +106,8 @@ module _ (w : ℕ) (a b : Clock) (ua ub : Vec) where
       silent-folder : (places : ℕ) → size (folder y k end) ≡ places → columns places (silentAt (wide w) rowA) ≡ 5 ∷ silent k ++ []
       unfolding silent mapped
       silent-folder places n =
-          ap₂ (λ (m : ℕ) (l : List ℕ). columns m (silentAt (wide w) l)) (sym n ∙ sym (mapped-size (λ (x : Two Sheet). x .a) (λ (z : Two Vec). z .a) (folder y k end))) (sym (folder-words (y .a) (left k)))
+          ap₂ (λ (m : ℕ) (l : List ℕ). columns m (silentAt (wide w) l))
+          (sym n ∙ sym (mapped-size (λ (x : Two Sheet). x .a) (λ (z : Two Vec). z .a) (folder y k end))) (sym (folder-words (y .a) (left k)))
           ∙ silent-tree w (left (folder y k end))
           ∙ silent-mapped (λ (x : Two Sheet). x .a) (λ (z : Two Vec). z .a) (folder y k end)
 
@@ -260,6 +261,8 @@ pub walked-siblings : (w : ℕ) {a b : Clock} {ua ub : Vec} {s t : List ℕ} {n 
 walked-siblings w {a} {b} {ua} {ub} e o₁ l r nu h ra rb ea eb g =
     let q = r .parts in
     let z = below w a b ua ub (q .pair) (r .single) (q .fit) h in
-    subst (Siblings w) (sym (beneath-back w a b ua ub (q .deviceA) (q .deviceB) nu (q .pair) z e o₁ l ra rb ea eb g ∙ kids w a b ua ub (q .deviceA) (q .deviceB) nu (q .pair) z e o₁ l ra rb ea eb g .words))
+    subst (Siblings w) (sym (beneath-back w a b ua ub (q .deviceA) (q .deviceB) nu (q .pair) z e o₁ l ra rb ea eb g
+    ∙ kids w a b ua ub (q .deviceA) (q .deviceB) nu (q .pair) z e o₁ l ra rb ea eb g .words))
     (fine-siblings w (walk w a b (z .children) (greatest ua (z .floors .a)) (greatest ub (z .floors .b)))
-    (walked-fine w a b ua ub (q .deviceA) (q .deviceB) nu (z .floors) (z .children) (z .goodA .narrow) (z .goodB .narrow) (fineA w a b ua ub (q .deviceA) (q .deviceB) nu (q .pair) z) (fineB w a b ua ub (q .deviceA) (q .deviceB) nu (q .pair) z)))
+    (walked-fine w a b ua ub (q .deviceA) (q .deviceB) nu (z .floors) (z .children) (z .goodA .narrow) (z .goodB .narrow)
+    (fineA w a b ua ub (q .deviceA) (q .deviceB) nu (q .pair) z) (fineB w a b ua ub (q .deviceA) (q .deviceB) nu (q .pair) z)))

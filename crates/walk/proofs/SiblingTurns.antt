@@ -92,9 +92,11 @@ module _ (w : ℕ) (a b : Clock) (ua ub : Vec) where
   turns-start s t o = record { target = refl; answers = refl; turn = λ p f. turn-start p s t o f }
 
   -- ONE ROW MORE: its parts came back as e and v
-  module _ (s t o : List ℕ) (row count : ℕ) (h : Here s t o row) (e v : List ℕ) (l : ℕ) (he : length e ≡ length (rowIn w s row t)) (hv : length v ≡ length (take (row + sizeAt w s row - row) (drop row o)))
+  module _ (s t o : List ℕ) (row count : ℕ) (h : Here s t o row) (e v : List ℕ) (l : ℕ)
+      (he : length e ≡ length (rowIn w s row t)) (hv : length v ≡ length (take (row + sizeAt w s row - row) (drop row o)))
       (f : (q : Pair) → Single q → Fit w a b ua ub q (rowIn w s row s) (rowIn w s row t) → Passed w a b q ua ub e v l) where
-    turn-step : (p : Pair) → Turn p s t o row count → Turn p s (putMid (row * wide w) (endAt w s row - row * wide w) t e) (putMid row (row + sizeAt w s row - row) o v) (row + sizeAt w s row) (count + l)
+    turn-step : (p : Pair) → Turn p s t o row count
+        → Turn p s (putMid (row * wide w) (endAt w s row - row * wide w) t e) (putMid row (row + sizeAt w s row - row) o v) (row + sizeAt w s row) (count + l)
     turn-step p g =
         let m = row * wide w in
         let k = sizeAt w s row in
@@ -109,7 +111,8 @@ module _ (w : ℕ) (a b : Clock) (ua ub : Vec) where
           fit = rw (z, put-past m (endAt w s row) t e (omega arith) (h .cutB) he) (c .fitRest);
         }
 
-    pub turns-step : {t₀ o₀ : List ℕ} → Turns s t₀ o₀ t o row count → Turns s t₀ o₀ (putMid (row * wide w) (endAt w s row - row * wide w) t e) (putMid row (row + sizeAt w s row - row) o v) (row + sizeAt w s row) (count + l)
+    pub turns-step : {t₀ o₀ : List ℕ} → Turns s t₀ o₀ t o row count
+        → Turns s t₀ o₀ (putMid (row * wide w) (endAt w s row - row * wide w) t e) (putMid row (row + sizeAt w s row - row) o v) (row + sizeAt w s row) (count + l)
     turns-step g = record {
       target = same-len-mid (row * wide w) (endAt w s row - row * wide w) t e he ∙ g .target;
       answers = same-len-mid row (row + sizeAt w s row - row) o v hv ∙ g .answers;
@@ -153,7 +156,8 @@ module _ (w : ℕ) (a b : Clock) (ua ub : Vec) where
         let z = single-size w (c .first) (c .single) in
         let y = ap size (c .whole) ∙ plus-size (c .first) (c .rest) in
         let x = c .size in
-        let q : row + size (d .left) ≡ n = cancel (wide w) (omega arith) (row + size (d .left)) n (add-mul row (size (d .left)) (wide w) ∙ omega (arith, length-drop m s, fit-long w a b ua ub (d .left) (d .fit) .source)) in
+        let q : row + size (d .left) ≡ n =
+        cancel (wide w) (omega arith) (row + size (d .left)) n (add-mul row (size (d .left)) (wide w) ∙ omega (arith, length-drop m s, fit-long w a b ua ub (d .left) (d .fit) .source)) in
         let r : row + k ≤ length o = omega arith in
         let cut : (row + k) * wide w ≤ n * wide w = mul-le-mul-right (wide w) (omega arith) in
         let far : (row + k) * wide w ≡ row * wide w + k * wide w = add-mul row k (wide w) in

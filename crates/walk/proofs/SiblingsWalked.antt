@@ -49,7 +49,8 @@ module _ (w : ℕ) where
     walk-plus end q ua ub = refl
     walk-plus (sheet x r) q ua ub = ap (sheet (ruled a b ua (ruleAt a b ua ub x) x)) (walk-plus r q ua ub)
     walk-plus (folder y k r) q ua ub =
-        go (over w a b ua ub y k) (raised b (y .b) (fullLeast a ua (y .a) (left k))) (right k) (y .b) (walk w a b k (greatest ua (y .a)) (greatest ub (y .b))) (walk w a b r ua ub) (walk w a b q ua ub) (walk-plus r q ua ub)
+        go (over w a b ua ub y k) (raised b (y .b) (fullLeast a ua (y .a) (left k))) (right k) (y .b)
+        (walk w a b k (greatest ua (y .a)) (greatest ub (y .b))) (walk w a b r ua ub) (walk w a b q ua ub) (walk-plus r q ua ub)
       where
         go : (o : Bool) (f : Vec) (l : Tree) (g : Vec) (m x y : Tree) {z : Tree} → z ≡ plus x y → cond o (folder f l z) (folder g m z) ≡ plus (cond o (folder f l x) (folder g m x)) y
         go true f l g m x y e = ap (folder f l) e
@@ -89,7 +90,8 @@ module _ (w : ℕ) where
     walk-size end ua ub = refl
     walk-size (sheet x r) ua ub = ap suc (walk-size r ua ub)
     walk-size (folder y k r) ua ub =
-        go (over w a b ua ub y k) (raised b (y .b) (fullLeast a ua (y .a) (left k))) (y .b) (right k) (walk w a b k (greatest ua (y .a)) (greatest ub (y .b))) (walk w a b r ua ub) (mapped-size _ _ k) (walk-size k (greatest ua (y .a)) (greatest ub (y .b))) (walk-size r ua ub)
+        go (over w a b ua ub y k) (raised b (y .b) (fullLeast a ua (y .a) (left k))) (y .b) (right k)
+        (walk w a b k (greatest ua (y .a)) (greatest ub (y .b))) (walk w a b r ua ub) (mapped-size _ _ k) (walk-size k (greatest ua (y .a)) (greatest ub (y .b))) (walk-size r ua ub)
       where
         go : (o : Bool) (f g : Vec) (l m z : Tree) {i j : ℕ} → size l ≡ i → size m ≡ i → size z ≡ j → size (cond o (folder f l z) (folder g m z)) ≡ suc (i + j)
         go true f g l m z p q e = omega (arith, p, e)

@@ -1,4 +1,4 @@
--- `hears` meets its contract: the stamp and the birth in the row.
+-- The stamp and the birth in the row.
 use mathlib.Core.Path.{ap, _∙_}
 use borrow.Author.Needs.{needs}
 use Rattle.paper.specs.Columns.{vec, covers}

@@ -3,7 +3,7 @@ use Rattle.paper.specs.Columns.{Vec, vec, zeros, part, greatest, smallest}
 use Rattle.paper.specs.Devices.{devices}
 use Rattle.paper.specs.Order.{kindWord}
 use Rattle.paper.specs.Widths.{narrowColumns}
-use Rattle.paper.specs.Words.{wide, leastAt, mostAt}
+use Rattle.paper.specs.Words.{wide, leastAt}
 use Rattle.vector.proofs.ColumnLoops.{zeros-vec}
 use Rattle.vector.proofs.Parts.{none-rows}
 use Rattle.summary.specs.Sums.{stored, placeOf}
@@ -59,16 +59,6 @@ loop-holds c =
     let t = e .before .before .args .t .now in
     (search needs, gathered-as w t 0 (zeros-vec devices) (c .before .read .ensures ∙ ap (λ (k : ℕ). part w k t) (c .before .before .place .ensures)) (c .zeros .ensures) (first e))
 
-read-requires-2 : tie.Need-read-requires-2 Inv-loop μ-loop
-read-requires-2 c κs =
-    let i : In = search in
-    (omega arith, omega (arith, cut i .long, place-room w (kindWord (rowAt w (words i) (i .before .loop .at))) (leastAt w) (omega arith), c .place2 .ensures))
-
-read-requires-3 : tie.Need-read-requires-3 Inv-loop μ-loop
-read-requires-3 c κs =
-    let i : In = search in
-    (omega arith, omega (arith, cut i .long, place-room w (kindWord (rowAt w (words i) (i .before .loop .at))) (mostAt w) (omega arith), c .place3 .ensures))
-
 loop-again : tie.Need-loop-again Inv-loop μ-loop
 loop-again c =
     let i : In = search in
@@ -93,8 +83,10 @@ of-rows-spec =
     Inv-loop μ-loop (λ c κs. search needs) returns (λ c. search needs) (λ c κs. search needs) read-requires (λ c κs. search needs) loop-holds
     (λ c. search needs) (λ c. search needs) (λ c. search needs) (λ c. search needs) (λ c. cut c .room) (λ c. search needs)
     (λ c. let i : In = search in sym (i .before .loop .inv .0))
-    (λ c κs. let i : In = search in (i .before .loop .inv .0, cut i .countable)) (λ c κs. search needs) read-requires-2 (λ c κs. search needs)
-    (λ c κs. search needs) read-requires-3 (λ c κs. search needs) (λ c. let i : In = search in omega (arith, cut i .long))
+    (λ c κs. let i : In = search in (i .before .loop .inv .0, cut i .countable)) (λ c κs. search needs)
+    (λ c κs. let i : In = search in (omega arith, omega (arith, cut i .least, c .place2 .ensures))) (λ c κs. search needs)
+    (λ c κs. search needs) (λ c κs. let i : In = search in (omega arith, omega (arith, cut i .most, c .place3 .ensures))) (λ c κs. search needs)
+    (λ c. let i : In = search in omega (arith, cut i .long))
     (λ c. omega (arith, c .shared-slice-known4 .given 1)) (λ c. omega (arith, c .shared-slice-known4 .given 1))
     (λ c. let i : In = search in let s : tie.Start Inv-loop μ-loop = search in omega (arith, cut i .rows, s .good .0))
     (λ c. let i : In = search in omega (arith, cut i .rows, cut i .some, i .loop-test .taken)) loop-again returns-2)

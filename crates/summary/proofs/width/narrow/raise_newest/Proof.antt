@@ -9,12 +9,8 @@ use Rattle.summary.proofs.Stored.{newest-folder, newest-live, newest-re
 use native.Mathlib.Omega.{arith}
 use mathlib.Core.Path.{sym, ap, ap₂, fun-ext, _∙_}
 use borrow.Author.Needs.{needs}
-use Prim.Native.Nat.{ℕ}
 use Rattle.summary.proofs.width.narrow.raise_newest.Statement.{statement}
 use Rattle.summary.proofs.width.narrow.raise_newest.Tie as tie
-
-abbrev w : ℕ
-w = narrowColumns
 
 returns : tie.Need-returns
 returns c =
@@ -22,25 +18,25 @@ returns c =
     let t : tie.Then1 = g .before .before .before .before in
     let q = t .before .before .before .before in
     let r = q .args .row .now in
-    all-raised devices (q .args .newest .now) _ _ _ (q .pre .0) (λ j k. part-narrow w (newestAt w) r j (omega arith))
+    all-raised devices (q .args .newest .now) _ _ _ (q .pre .0) (λ j k. part-narrow narrowColumns (newestAt narrowColumns) r j (omega arith))
     (g .greatest .ensures ∙ ap₂ (λ (x y : Vec). greatest x y) (g .before .before .read .ensures) (g .before .read2 .ensures)) (c .before .before .write .ensures)
-    ∙ ap (λ (x : Vec). greatest (vec (q .args .newest .now)) x) (sym (newest-folder w r (t .if1 .taken)))
+    ∙ ap (λ (x : Vec). greatest (vec (q .args .newest .now)) x) (sym (newest-folder narrowColumns r (t .if1 .taken)))
 
 returns-2 : tie.Need-returns-2
 returns-2 c =
     let t : tie.Then2 = search in let q : tie.Start = search in
-    c .before .before .raise-column .ensures ∙ ap (λ (x : Vec). greatest (vec (q .args .newest .now)) x) (sym (newest-live w (q .args .row .now) (t .if2 .taken)))
+    c .before .before .raise-column .ensures ∙ ap (λ (x : Vec). greatest (vec (q .args .newest .now)) x) (sym (newest-live narrowColumns (q .args .row .now) (t .if2 .taken)))
 
 returns-3 : tie.Need-returns-3
 returns-3 c =
     let t : tie.Then3 = search in let q : tie.Start = search in
-    c .before .before .raise-column2 .ensures ∙ ap (λ (x : Vec). greatest (vec (q .args .newest .now)) x) (sym (newest-removed w (q .args .row .now) (t .if3 .taken)))
+    c .before .before .raise-column2 .ensures ∙ ap (λ (x : Vec). greatest (vec (q .args .newest .now)) x) (sym (newest-removed narrowColumns (q .args .row .now) (t .if3 .taken)))
 
 returns-4 : tie.Need-returns-4
 returns-4 c =
     let q : tie.Start = search in
     fun-ext (λ j. omega arith)
-    ∙ ap (λ (x : Vec). greatest (vec (q .args .newest .now)) x) (sym (newest-never w (q .args .row .now) (c .before .before .if1 .left) (c .before .if2 .left) (c .if3 .left)))
+    ∙ ap (λ (x : Vec). greatest (vec (q .args .newest .now)) x) (sym (newest-never narrowColumns (q .args .row .now) (c .before .before .if1 .left) (c .before .if2 .left) (c .if3 .left)))
 
 pub raise-newest-spec : {M : Type 1} → statement M
 raise-newest-spec =

@@ -17,7 +17,7 @@ use Rattle.history.specs.Knowledge
 use Rattle.history.specs.World
 use Rattle.history.specs.Run
 use Rattle.history.specs.Knowledge.{sets}
-use Rattle.history.specs.Run.{Step, event, pass, settle, widen, State, begun, after, ran}
+use Rattle.history.specs.Run.{Step, event, pass, settle, widen, State, begun, step, ran}
 
 -- folders 0 and 1, sheets 2, 3 and 4
 plan : List ℕ
@@ -49,7 +49,7 @@ number s (widen d wider) = widenOf (s .tables d) wider .number
 
 refused : State → List Step → ℕ
 refused s [] = 0
-refused s (x ∷ xs) = first (number s x ∷ refused (after s x) xs ∷ [])
+refused s (x ∷ xs) = first (number s x ∷ refused (step s x) xs ∷ [])
 
 -- the calls before, source and target, and what the history says of sheets 2, 3 and 4
 record Case : Type 0 where
@@ -125,11 +125,11 @@ cases =
 
 -- the history's definitions, opened at once
 unfoldable happened : Unit {0}
-unfolding Knowledge.ruled Knowledge.passed World.begin World.next World.tick World.put World.eventful World.passing World.settling Run.within Run.begun Run.after Run.run
+unfolding Knowledge.ruled Knowledge.passed World.begin World.next World.tick World.put World.eventful World.passing World.settling Run.within Run.begun Run.step Run.run
 happened = tt
 
 -- A to K; then a change after A, C's conflict told again, C's conflict settled by theirs and by a new row, and a removal that
 -- goes by way of a device that never had the sheet; and tables that are widened on the way
-marked : map told cases ≡ map meant cases
+told-marked : map told cases ≡ map meant cases
 unfolding plan columns lent wider whole part number refused told meant first-pass changed settled both-create two-born widened cases computed happened
-marked = refl
+told-marked = refl

@@ -23,7 +23,7 @@ use Rattle.run.specs.Knowledge.{sets}
 use Rattle.history.specs.Vectors.{vectors}
 use Rattle.run.specs.World.{noRow, begin, eventful, passing, settling}
 use Rattle.paper.specs.Devices.{devices}
-use Rattle.run.specs.Run.{Step, event, pass, settle, widen, State, replaced, within, begun, after, run, Makes}
+use Rattle.run.specs.Run.{Step, event, pass, settle, widen, State, replaced, within, begun, step, run, Makes}
 use Rattle.history.specs.Look.{cellAt}
 use Rattle.history.proofs.Cells.{cellIn, cell-table}
 use Rattle.history.proofs.WorldsAgree.{begin-inv}
@@ -127,26 +127,26 @@ module _ (p : Forest (Unit {0}) (Unit {0})) where
   unless-kept zero s t k h = h refl
   unless-kept (suc n) s t k h = k
 
-  after-kept : (s : State) (x : Step) → Kept p s → Kept p (after s x)
-  unfolding after
-  after-kept s (event d row e m) k =
+  step-kept : (s : State) (x : Step) → Kept p s → Kept p (step s x)
+  unfolding step
+  step-kept s (event d row e m) k =
       unless-kept (eventAny (s .tables d) row e m .number) s _ k
       (λ q.
       let acc = event-accepted (widthOf (s .tables d)) (s .tables d) row e m q in
       subst (λ (o : Changed). Kept p (record { tables = replaced (s .tables) d (o .table); past = eventful sets (s .past) d row (eventNamed e) m })) (sym (acc .done)) (event-kept p s k d row e m acc))
-  after-kept s (pass a b row list) k =
+  step-kept s (pass a b row list) k =
       unless-kept (passAny (s .tables a) (s .tables b) row list .number) s _ k
       (λ q.
       let acc = pass-accepted (s .tables a) (s .tables b) row list q in
       subst (λ (o : Passed). Kept p (record { tables = replaced (s .tables) b (o .target); past = passing sets (s .past) a b (within row (length list)) })) (sym (acc .done))
       (pass-kept p s k (widthOf (s .tables b)) (width-either (s .tables b)) a b row list _ acc))
-  after-kept s (settle a b row c m) k =
+  step-kept s (settle a b row c m) k =
       unless-kept (settleAny (s .tables a) (s .tables b) row c m .number) s _ k
       (λ q.
       let acc = settle-accepted (s .tables a) (s .tables b) row c m q in
       subst (λ (o : Changed). Kept p (record { tables = replaced (s .tables) b (o .table); past = settling sets (s .past) a b row (choiceNamed c) m })) (sym (acc .done))
       (settle-kept p s k (widthOf (s .tables b)) (width-either (s .tables b)) a b row c m _ acc))
-  after-kept s (widen d wider) k =
+  step-kept s (widen d wider) k =
       unless-kept (widenOf (s .tables d) wider .number) s _ k
       (λ q. subst (λ (o : Changed). Kept p (record { tables = replaced (s .tables) d (o .table); past = s .past })) (sym (widened (s .tables d) wider q .done)) (widen-kept p s k d wider q))
 
@@ -154,4 +154,4 @@ module _ (p : Forest (Unit {0}) (Unit {0})) where
   pub run-kept : (s : State) (xs : List Step) → Kept p s → Kept p (run s xs)
   unfolding run
   run-kept s [] k = k
-  run-kept s (x ∷ xs) k = run-kept (after s x) xs (after-kept s x k)
+  run-kept s (x ∷ xs) k = run-kept (step s x) xs (step-kept s x k)

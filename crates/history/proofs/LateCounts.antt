@@ -12,7 +12,7 @@ use Rattle.paper.specs.Words.{tableOf}
 use Rattle.paper.specs.Refusals.{first, when, tens, unless}
 use Rattle.paper.specs.Check.{checkOf}
 use Rattle.paper.specs.Calls.{Answered, Changed, Passed, eventRefused, twoRefused, passRefused, settleRefused, beneathRefused, standingRefused, passOf, settleOf, standingOf, beneathOf}
-use Rattle.paper.specs.Widths.{widthOf, tableAny, checkAny, eventAny, widenRefused, widenOf, twoWidths, passAny, settleAny, beneathAny, standingAny}
+use Rattle.paper.specs.Widths.{widthOf, tableAny, checkAny, widenRefused, twoWidths, passAny, settleAny, beneathAny, standingAny}
 use Rattle.laws.proofs.Calls.{event-number, pass-number, settle-number}
 use Rattle.laws.proofs.Refusals.{when-false}
 use Rattle.laws.proofs.Widths.{any-good, widen-number, two-any}

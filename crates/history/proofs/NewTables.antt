@@ -239,15 +239,15 @@ module _ (w d : ℕ) (plan : List ℕ) (dw : d < w) (some : 0 < length plan) (fe
   abbrev raw : Raw
   raw = forestOf (wide w) (planned w plan)
 
-  in-order : ordered (wide w) mostLevels (planned w plan) ≡ true
+  planned-order : ordered (wide w) mostLevels (planned w plan) ≡ true
   unfolding orderFits
-  in-order = and-both (eqb (sizeWord (planned w plan)) (length plan)) _ (and-both (eqb (kindWord (planned w plan)) 3) _ fits .1) .1
+  planned-order = and-both (eqb (sizeWord (planned w plan)) (length plan)) _ (and-both (eqb (kindWord (planned w plan)) 3) _ fits .1) .1
 
   raw-words : wordsOf raw ≡ planned w plan
-  raw-words = ordered-words (wide w) (omega arith) mostLevels (planned w plan) in-order
+  raw-words = ordered-words (wide w) (omega arith) mostLevels (planned w plan) planned-order
 
   raw-formed : Formed (wide w) mostLevels raw
-  raw-formed = ordered-formed (wide w) (omega arith) mostLevels (planned w plan) in-order
+  raw-formed = ordered-formed (wide w) (omega arith) mostLevels (planned w plan) planned-order
 
   front : Planned w raw plan []
   front = plan-front w mostLevels raw plan [] raw-formed (append-nil (wordsOf raw) ∙ raw-words)

@@ -1,6 +1,6 @@
 -- Whether an event or a settling of a run is accepted is told by the history: by the kind of the last event, by its rulings
 -- and by the number of events made. And its sets have none but events that were made.
-use Prim.Native.Nat.{ℕ, suc, _≤_, _<_}
+use Prim.Native.Nat.{ℕ, _≤_, _<_}
 use mathlib.Core.Path.{_≡_, refl, sym, ap, ap₂, _∙_, subst}
 use mathlib.Core.Bool.{Bool, true, false, not, _&&_, true≢false}
 use mathlib.Core.List.{List, [], _∷_}
@@ -9,14 +9,13 @@ use native.Mathlib.Omega.{arith}
 use lib.Dec.{leb, ltb, eqb}
 use lib.ListN.{length, getD, List·getD-eq-default}
 use borrow.Author.Tests.{eq-eqb, leb-true, leb-false, lt-leb, ltb-true, ltb-false}
-use Rattle.paper.specs.declared.Ruling.{Ruling}
 use Rattle.paper.specs.declared.Stamp.{Stamp}
 use Rattle.paper.specs.Devices.{devices}
 use Rattle.paper.specs.Columns.{Vec, covers}
 use Rattle.paper.specs.Rules.{Cell, ruling}
 use Rattle.paper.specs.Acts.{fits, stamps}
-use Rattle.paper.specs.Tree.{mapped, size, subtree, sheetHere, above, Sheet}
-use Rattle.paper.specs.Walk.{Two, cell, left, right, ruleAt}
+use Rattle.paper.specs.Tree.{size, subtree, sheetHere, above, Sheet}
+use Rattle.paper.specs.Walk.{Two, cell, ruleAt}
 use Rattle.paper.specs.Words.{Table, tableOf}
 use Rattle.paper.specs.Refusals.{first, when}
 use Rattle.paper.specs.Calls.{Changed, oneToThree, eventNamed, fitsSheet, lastCount, eventRefused, twoRefused, pairAt, isFolder, rulingHere, choiceNamed, conflicts, settleRefused, settleOf}

@@ -127,7 +127,8 @@ module _ (w : ℕ) (c : Clock) where
   sheet-back u r s f =
       let z : length (drop (newestAt w) r) ≡ 3 * w = omega (arith, length-drop (newestAt w) r, s .long) in
       ap₂ (λ x y. x ∷ 1 ∷ getD r 2 0 ∷ getD r 3 0 ∷ getD r 4 0 ∷ getD r 5 0 ∷ getD r 6 0 ∷ 0 ∷ y) (number-kind (getD r 0 0) (s .kind))
-      (ap₂ _++_ (columns-part w floorAt r (omega (arith, s .long))) (ap (λ n. replicate n 0) (sym z) ∙ sym (blank-zeros (drop (newestAt w) r) (f .rest)) ∙ skip floorAt w r) ∙ take-append-drop w (drop floorAt r))
+      (ap₂ _++_ (columns-part w floorAt r (omega (arith, s .long))) (ap (λ n. replicate n 0) (sym z) ∙ sym (blank-zeros (drop (newestAt w) r) (f .rest)) ∙ skip floorAt w r)
+      ∙ take-append-drop w (drop floorAt r))
       ∙ ap₂ (λ x y. getD r 0 0 ∷ x ∷ getD r 2 0 ∷ getD r 3 0 ∷ getD r 4 0 ∷ getD r 5 0 ∷ getD r 6 0 ∷ y ∷ drop floorAt r) (sym (s .one)) (sym (f .seven))
       ∙ sym (eight r (omega (arith, s .long)))
 

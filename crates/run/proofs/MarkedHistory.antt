@@ -16,7 +16,7 @@ use Rattle.run.specs.Knowledge
 use Rattle.run.specs.World
 use Rattle.run.specs.Run
 use Rattle.run.specs.Knowledge.{sets}
-use Rattle.run.specs.Run.{Step, event, pass, settle, widen, State, begun, after}
+use Rattle.run.specs.Run.{Step, event, pass, settle, widen, State, begun, step}
 
 -- folders 0 and 1, sheets 2, 3 and 4
 plan : List ℕ
@@ -57,7 +57,7 @@ data Play : Type 0 where
 -- of each call its number, and what the history says
 told : State → Play → List (List ℕ)
 told s done = []
-told s (does x p) = (number s x ∷ []) ∷ told (after s x) p
+told s (does x p) = (number s x ∷ []) ∷ told (step s x) p
 told s (tells a b said p) = map (λ y. numberOf (ruling (sets .knows) (s .past .cell a y) (s .past .cell b y))) (2 ∷ 3 ∷ 4 ∷ []) ∷ told s p
 told s (aside p q) = told s p ++ told s q
 
@@ -130,10 +130,10 @@ plays = aside A-to-E (aside F-to-G (aside born-twice (aside removed-while-change
 
 -- the history's definitions, opened at once
 unfoldable happened : Unit {0}
-unfolding Knowledge.ruled Knowledge.passed World.begin World.next World.tick World.put World.eventful World.passing World.settling Run.within Run.begun Run.after Run.run
+unfolding Knowledge.ruled Knowledge.passed World.begin World.next World.tick World.put World.eventful World.passing World.settling Run.within Run.begun Run.step Run.run
 happened = tt
 
 -- A to K, a change after B, C's conflict settled in each way, a removal by way of another device, and tables that are widened
-marked : told (begun columns plan lent) plays ≡ meant plays
+told-marked : told (begun columns plan lent) plays ≡ meant plays
 unfolding plan columns lent wider whole part number told meant plays A-to-E by-theirs by-new widened F-to-G born-twice removed-while-changed K by-way computed happened
-marked = refl
+told-marked = refl

@@ -15,13 +15,13 @@ use Rattle.paper.specs.Columns.{Vec, vec, full, covers, alike, part}
 use Rattle.paper.specs.Rules.{never, live, removed}
 use Rattle.paper.specs.Tree.{greatestWith}
 use Rattle.paper.specs.Words.{wide, floorAt, newestAt, leastAt, mostAt, kindOf, rowOf, floorOf}
-use Rattle.paper.specs.Check.{blank, proper, absent, laid, known, sheetFits}
+use Rattle.paper.specs.Check.{blank, proper, absent, laid, known, sheetFits, summed}
 use Rattle.laws.proofs.Bools.{and-both}
 use Rattle.summary.specs.declared.Summary.{Summary}
 use Rattle.summary.specs.Sums.{said, sumsUnder}
 use Rattle.summary.proofs.SiblingSums.{given-some}
 use Rattle.summary.proofs.Narrow.{laid-device}
-use Rattle.layout.specs.FolderSums.{summed, folderBy}
+use Rattle.layout.specs.FolderSums.{folderBy}
 
 -- a kind word of 1, of 2, and any other
 module _ (r : List ℕ) where
@@ -131,16 +131,13 @@ module _ (w : ℕ) (c : Clock) (u : Vec) (r : List ℕ) where
 -- a folder's summaries, by the vectors that were read: the first that differs decides; past newest and least, most does
 module _ (w : ℕ) (r : List ℕ) (newest least most : Vec) where
   pub not-newest : {v : Vec} → v ≡ part w (newestAt w) r → alike w v newest ≡ false → summed w r newest least most ≡ false
-  unfolding summed
   not-newest e n = rw (ap (λ v. alike w v newest) (sym e) ∙ n)
 
   pub not-least : {v : Vec} → v ≡ part w (leastAt w) r → alike w v least ≡ false → summed w r newest least most ≡ false
-  unfolding summed
   not-least e n = rw (ap (λ v. alike w v least) (sym e) ∙ n, and-false)
 
   pub most-decides : {u v m : Vec} {b : Bool} → u ≡ part w (newestAt w) r → alike w u newest ≡ true → v ≡ part w (leastAt w) r → alike w v least ≡ true
       → m ≡ part w (mostAt w) r → b ≡ alike w m most → b ≡ summed w r newest least most
-  unfolding summed
   most-decides e x f y g z = z ∙ ap (λ v. alike w v most) g ∙ sym (rw (ap (λ v. alike w v newest) (sym e) ∙ x, ap (λ v. alike w v least) (sym f) ∙ y))
 
 -- past a folder's first two tests its summaries decide: `own`, worked out from what its children come to

@@ -17,10 +17,10 @@ ghost use lib.ListN.{length};
 ghost use Rattle.paper.specs.Columns.{vec, full, covers};
 ghost use Rattle.paper.specs.Words.{wide, floorAt, rowOf, floorOf};
 ghost use Rattle.paper.specs.Widths.{Width};
-ghost use Rattle.paper.specs.Check.{proper, absent, laid, known, sheetFits};
+ghost use Rattle.paper.specs.Check.{proper, absent, laid, known, sheetFits, summed};
 ghost use Rattle.paper.specs.Devices.{devices};
 ghost use Rattle.summary.specs.Sums.{said};
-ghost use Rattle.layout.specs.FolderSums.{summed, folderBy};
+ghost use Rattle.layout.specs.FolderSums.{folderBy};
 
 // In a stamp or birth the device is a column and the count at least 1.
 fn is_proper(s: Stamp, columns: usize) -> bool

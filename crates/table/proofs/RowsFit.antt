@@ -21,7 +21,7 @@ use Rattle.vector.proofs.Parts.{tail-part, tail-length, none-rows}
 use Rattle.summary.specs.Sums.{sumsOf, stored, Siblings}
 use Rattle.summary.proofs.Narrow.{good-fine}
 use Rattle.summary.proofs.RowsSay.{stored-sums, rows-named}
-use Rattle.layout.specs.FolderSums.{summed, folderBy}
+use Rattle.layout.specs.FolderSums.{folderBy}
 use Rattle.order.specs.InOrder.{InOrder, OneRow}
 use Rattle.vector.proofs.Places.{part-first}
 use Rattle.order.proofs.FirstRow.{rows-forest, first-length, first-whole, first-ordered, one-under, one-sheet-forest, one-folder-forest}
@@ -44,7 +44,7 @@ fit-told w some c u t q e =
 
 -- a folder's rules by what its children come to
 folder-by : (w : ℕ) (c : Clock) (r : List ℕ) (k : Raw) → folderBy w c r (sumsOf (treeFrom w k)) ≡ folderFits w c r (treeFrom w k)
-unfolding folderBy folderFits summed
+unfolding folderBy folderFits
 folder-by w c r k = refl
 
 -- a sheet alone, and a folder alone

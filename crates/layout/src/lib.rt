@@ -71,7 +71,7 @@ fn is_unborn(r: &[u32]) -> bool
 }
 
 // Stamp, birth and mark are as the kind of the row says.
-pub fn is_laid(r: &[u32], columns: usize) -> bool
+fn is_laid(r: &[u32], columns: usize) -> bool
     requires { ⌜ floorAt ≤ length (now r) ⌝ }
     ensures { λ b. ⌜ b ≡ laid columns (rowOf (now (r .entry)) .kind) (rowOf (now (r .entry))) ⌝ }
 {
@@ -112,7 +112,7 @@ fn is_covered(r: &[u32], clock: Clock, u: Vector, stamp: Stamp, columns: usize) 
 }
 
 // The stamps of a row that is laid out as its kind says are covered by its known time under the floors u.
-pub fn is_known(r: &[u32], clock: Clock, u: Vector, columns: usize) -> bool
+fn is_known(r: &[u32], clock: Clock, u: Vector, columns: usize) -> bool
     requires { ⌜ (wide columns ≤ length (now r)) × (laid columns (rowOf (now r) .kind) (rowOf (now r)) ≡ true) × (0 < columns) × (columns ≤ devices) ⌝ }
     ensures { λ b. ⌜ b ≡ known (full clock (vec (u .0)) (floorOf columns (now (r .entry)))) (rowOf (now (r .entry)) .kind) (rowOf (now (r .entry))) ⌝ }
 {
@@ -131,7 +131,7 @@ pub fn is_known(r: &[u32], clock: Clock, u: Vector, columns: usize) -> bool
 }
 
 // The own column of a row's floor is zero.
-pub fn is_own_zero(r: &[u32], clock: Clock, columns: usize) -> bool
+fn is_own_zero(r: &[u32], clock: Clock, columns: usize) -> bool
     requires { ⌜ (wide columns ≤ length (now r)) × (clock .device < columns) ⌝ }
     ensures { λ b. ⌜ b ≡ eqb (floorOf columns (now (r .entry)) (clock .device)) 0 ⌝ }
 {
@@ -152,7 +152,7 @@ pub fn sheet_fits(r: &[u32], clock: Clock, u: Vector, columns: usize) -> bool
 }
 
 // The summaries in a folder's row are these.
-pub fn is_summed(r: &[u32], own: Summary, columns: usize) -> bool
+fn is_summed(r: &[u32], own: Summary, columns: usize) -> bool
     requires { ⌜ (wide columns ≤ length (now r)) × (columns ≤ devices) ⌝ }
     ensures { λ b. ⌜ b ≡ summed columns (now (r .entry)) (vec (own .newest .0)) (vec (own .least .0)) (vec (own .most .0)) ⌝ }
 {

@@ -7,9 +7,8 @@ use borrow.Author.Needs.{needs}
 use Rattle.layout.proofs.is_own_zero.Statement.{statement}
 use Rattle.layout.proofs.is_own_zero.Tie as tie
 
-returns : tie.Need-returns
-returns c = let s = c .before .before in sym (ap (λ n. eqb n 0) (floor-word (s .args .columns) (s .args .r .now) (s .args .clock .device) (s .pre .1)))
-
 pub is-own-zero-spec : {M : Type 1} → statement M
 is-own-zero-spec =
-    tie.close (tie.spec (λ c. search needs) (λ c. search needs) (λ c. search needs) (λ c. search needs) returns)
+    tie.close
+    (tie.spec (λ c. search needs) (λ c. search needs) (λ c. search needs) (λ c. search needs)
+    (λ c. let s = c .before .before in sym (ap (λ n. eqb n 0) (floor-word (s .args .columns) (s .args .r .now) (s .args .clock .device) (s .pre .1)))))

@@ -9,7 +9,7 @@ use lib.Seq.{drop-drop, drop-at, drop-append-le, getD-drop}
 use Rattle.paper.specs.Columns.{Vec, zeros, greatest, part}
 use Rattle.paper.specs.Tree.{above}
 use Rattle.paper.specs.Order.{sizeWord, beneath, after, ordered}
-use Rattle.paper.specs.Words.{wide, floorOf, floorAt, treeOf, tableOf}
+use Rattle.paper.specs.Words.{wide, floorOf, treeOf, tableOf}
 use Rattle.paper.specs.Check.{checkOf}
 use Rattle.laws.proofs.Tables.{check-facts}
 use Rattle.laws.proofs.Order.{Step, ordered-facts, split-part, row-length, row-room, beneath-length, after-length}

@@ -58,11 +58,13 @@ module _ (w : ℕ) where
     where
       go : (b : Bool) → ltb i (size k) ≡ b
           → (i < size k → size g ≡ size (subtree k i) → levels (graft k i g) ≤ lv - 1 → Fine w (graft k i g) → Grafted w (lv - 1) (graft (rowsOf w k) i (rowsOf w g)) i (graft k i g))
-          → (i - size k < size r → size g ≡ size (subtree r (i - size k)) → levels (graft r (i - size k) g) ≤ lv → Fine w (graft r (i - size k) g) → Grafted w lv (graft (rowsOf w r) (i - size k) (rowsOf w g)) (i - size k) (graft r (i - size k) g))
+          → (i - size k < size r → size g ≡ size (subtree r (i - size k)) → levels (graft r (i - size k) g) ≤ lv → Fine w (graft r (i - size k) g)
+          → Grafted w lv (graft (rowsOf w r) (i - size k) (rowsOf w g)) (i - size k) (graft r (i - size k) g))
           → size g ≡ size (cond b (subtree k i) (subtree r (i - size k)))
           → levels (cond b (folder f (graft k i g) r) (folder f k (graft r (i - size k) g))) ≤ lv
           → Fine w (cond b (folder f (graft k i g) r) (folder f k (graft r (i - size k) g)))
-          → Grafted w lv (cond b (folder (folderRow w f k) (graft (rowsOf w k) i (rowsOf w g)) (rowsOf w r)) (folder (folderRow w f k) (rowsOf w k) (graft (rowsOf w r) (i - size k) (rowsOf w g)))) (suc i)
+          → Grafted w lv (cond b (folder (folderRow w f k) (graft (rowsOf w k) i (rowsOf w g)) (rowsOf w r))
+          (folder (folderRow w f k) (rowsOf w k) (graft (rowsOf w r) (i - size k) (rowsOf w g)))) (suc i)
           (cond b (folder f (graft k i g) r) (folder f k (graft r (i - size k) g)))
       go true t a b e l p =
           let q = a (ltb-true _ _ t) e (omega arith) (p .1) in

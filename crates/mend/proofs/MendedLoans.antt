@@ -12,15 +12,15 @@ use lib.Seq.{take-at, drop-at, take-append-add, length-take-le}
 use Rattle.paper.specs.Tree.{end, sheet, folder, size}
 use Rattle.paper.specs.Order.{kindWord, sizeWord, beneath, after, ordered, Raw, placed, forestOf, wordsOf}
 use Rattle.paper.specs.Words.{wide}
-use Rattle.laws.proofs.Order.{Step, ordered-facts, forest-step, split-part, row-room, row-length, beneath-length, after-length}
-use Rattle.laws.proofs.FormedRows.{Formed, formed-length, formed-ordered, formed-read, ordered-formed, ordered-words}
+use Rattle.laws.proofs.Order.{Step, ordered-facts, forest-step, split-part, row-room, row-length, beneath-length}
+use Rattle.laws.proofs.FormedRows.{Formed, formed-ordered, formed-read, ordered-formed, ordered-words}
 use Rattle.summary.specs.Sums.{mended, Named, stored, Siblings}
 use Rattle.summary.proofs.Stored.{past-named, under-named}
 use Rattle.order.proofs.Descents.{not-below, under-size, folder-kind, folder-here}
 use Rattle.order.proofs.RowPlaces.{row-under, row-after}
 use Rattle.order.proofs.Siblings.{Here, here, next, size-here, part-beneath, part-after}
 use Rattle.mend.specs.Mended.{mendedBy, mendedRows}
-use Rattle.mend.proofs.MendedRows.{mended-append, mended-size, mended-formed, mended-named}
+use Rattle.mend.proofs.MendedRows.{mended-append, mended-formed, mended-named}
 
 take-more : (a k : ℕ) (t : List ℕ) → a ≤ length t → take (a + k) t ≡ take a t ++ take k (drop a t)
 take-more a k t h =
@@ -187,7 +187,8 @@ module _ (w : ℕ) (t : List ℕ) (row : ℕ) where
           whole =
               a .whole ∙ ap (λ x. take at t ++ x) (past-words w (a .levels) u some (a .order) left (omega arith))
               ∙ sym (append-assoc (take at t) (take (sizeWord u * n) u) _)
-              ∙ ap₂ (λ x y. x ++ wordsOf (mendedRows w (forestOf n y) (left - sizeWord u))) (ap (λ k. take at t ++ take (k * n) u) z ∙ sym (take-more at (getD t (at + 1) 0 * n) t (omega (arith, a .here .under, a .here .room)))) (sym p)
+              ∙ ap₂ (λ x y. x ++ wordsOf (mendedRows w (forestOf n y) (left - sizeWord u)))
+              (ap (λ k. take at t ++ take (k * n) u) z ∙ sym (take-more at (getD t (at + 1) 0 * n) t (omega (arith, a .here .under, a .here .room)))) (sym p)
               ∙ ap (λ k. wordsOfAfter k) z;
         }
       where
@@ -257,5 +258,6 @@ module _ (w : ℕ) (t : List ℕ) (row : ℕ) where
             let i : suc (left - 1) ≡ left = omega arith in
             lent-twice at (wide w) (next (wide w) t at) t y (a .here .under) (a .here .room) (k ∙ below-length) z
             ∙ ap₂ (λ b c. take at t ++ (b ++ c)) (g ∙ ap₂ (mendedBy w) held-kids held-words) (part-after (wide w) t at)
-            ∙ ap (λ x. take at t ++ x) (under-words w (a .levels) u some (a .order) (left - 1) y back (omega (arith, size-here (wide w) t at)) ∙ ap (λ j. wordsOf (mendedRows w (forestOf (wide w) u) j)) i)
+            ∙ ap (λ x. take at t ++ x) (under-words w (a .levels) u some (a .order) (left - 1) y back (omega (arith, size-here (wide w) t at))
+            ∙ ap (λ j. wordsOf (mendedRows w (forestOf (wide w) u) j)) i)
             ∙ sym (a .whole)

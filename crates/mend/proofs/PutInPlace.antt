@@ -57,7 +57,8 @@ pub siblings : {w : ℕ} {t u : List ℕ} {row : ℕ} {after : Table} → Change
 siblings c = (record { levels = 16; order = c .order; named = c .named }, c .there)
 
 -- the length stays when the rows come back
-pub same-long : {w : ℕ} {t u : List ℕ} {row : ℕ} {after : Table} → Changed w t u row after → (y : List ℕ) → length y ≡ length (take (length u - wide w) (drop (wide w) u)) → length (putMid (wide w) (length u - wide w) u y) ≡ length t
+pub same-long : {w : ℕ} {t u : List ℕ} {row : ℕ} {after : Table} → Changed w t u row after → (y : List ℕ)
+    → length y ≡ length (take (length u - wide w) (drop (wide w) u)) → length (putMid (wide w) (length u - wide w) u y) ≡ length t
 same-long {w} {t} {u} c y h = same-len-mid (wide w) (length u - wide w) u y h ∙ c .long
 
 module _ (w : ℕ) (t : List ℕ) (row : ℕ) (at : There w t row) where
@@ -152,7 +153,8 @@ module _ (w : ℕ) (t : List ℕ) (row : ℕ) (at : There w t row) where
       changed-all : (y : List ℕ) → y ≡ wordsOf (mendedRows w (forestOf n (take (length u - n) (drop n u))) row) → putMid n (length u - n) u y ≡ written w (record { clock = c; tree = newTree })
       unfolding written
       changed-all y q =
-          ap₂ (λ p z. p ++ (y ++ z)) (ap (take n) is ∙ take-at (head c) (wordsOf newRows) n (head-long w c (size tree))) (drop-of-length-le (drop n u) {i = length u - n} (omega (arith, length-drop n u)))
+          ap₂ (λ p z. p ++ (y ++ z)) (ap (take n) is ∙ take-at (head c) (wordsOf newRows) n (head-long w c (size tree)))
+          (drop-of-length-le (drop n u) {i = length u - n} (omega (arith, length-drop n u)))
           ∙ ap (λ z. head c ++ z) (append-nil y ∙ q ∙ ap (λ z. wordsOf (mendedRows w (forestOf n z) row)) changed-rows ∙ ap (λ f. wordsOf (mendedRows w f row)) rows-read)
           ∙ ap₂ (λ s f. headWords w c s ++ wordsOf f) (sym (graft-size tree row g new-size)) (placed .right)
 

@@ -7,7 +7,7 @@ use native.Mathlib.Omega.{arith}
 use native.Mathlib.Nat.{suc-mul, zero-mul, add-mul, mul-le-mul-right}
 use lib.Dec.{eqb, leb, ltb}
 use borrow.Author.Tests.{lt-ltb, le-leb, leb-true, leb-false, lt-leb, eq-eqb, ne-eqb}
-use lib.ListN.{length, getD, take, drop, replicate, length-append, length-drop}
+use lib.ListN.{length, getD, take, drop, set, replicate, length-append, length-drop}
 use lib.Seq.{take-append-add, drop-append-add, drop-drop, getD-drop, take-all}
 use borrow.Rule.Slice.PartMut.{putMid, same-len-mid, mid-len}
 use Rattle.paper.specs.Order.{kindWord, sizeWord, rowFits, ordered}
@@ -17,9 +17,10 @@ use Rattle.paper.specs.Calls.{planned}
 use Rattle.laws.proofs.BlankWords.{length-zeros}
 use Rattle.laws.proofs.Order.{ordered-step, nil-order}
 use Rattle.paper.specs.Devices.{devices}
+use Rattle.order.proofs.Descents.{not-below}
 use Rattle.vector.proofs.Parts.{words-small}
 use Rattle.table.proofs.RowsWritten.{head-length, head-words, row-words}
-use Rattle.plan.specs.PlannedRows.{plannedRow, plannedTable}
+use Rattle.plan.specs.PlannedRows.{plannedRow, planFits, plannedTable}
 
 -- the size of the row that a number gives
 abbrev planSize : ℕ → ℕ
@@ -115,8 +116,8 @@ module _ (w : ℕ) where
       one : planSize k ≡ suc (planSize k - 1)
       one = omega arith
 
-  plan-first : (lv : ℕ) (p : List ℕ) → 0 < length p → ordered n lv (planned w p)
-      ≡ ((ltb 0 lv && leb (planSize (getD p 0 0)) (length p)) && (ordered n (lv - 1) (planned w (take (planSize (getD p 0 0) - 1) (drop 1 p))) && ordered n lv (planned w (drop (planSize (getD p 0 0)) p))))
+  plan-first : (lv : ℕ) (p : List ℕ) → 0 < length p → let k = planSize (getD p 0 0) in
+      ordered n lv (planned w p) ≡ ((ltb 0 lv && leb k (length p)) && (ordered n (lv - 1) (planned w (take (k - 1) (drop 1 p))) && ordered n lv (planned w (drop k p))))
   plan-first lv [] h = absurd (omega arith)
   plan-first lv (k ∷ p) h = order-planned lv k p
 
@@ -152,18 +153,33 @@ module _ (w : ℕ) where
       pub plan-next : k ≤ length p - at → ordered n (lv - 1) (planned w under) ≡ true → ordered n lv (planned w (drop at p)) ≡ ordered n lv (planned w (drop (at + k) p))
       plan-next g b = plan-step ∙ rw (lt-ltb 0 lv l, le-leb k (length p - at) g, b)
 
-  -- the root: a folder of all rows
-  pub root-plan : (p : List ℕ) → 0 < length p → getD p 0 0 ≡ length p → orderFits w (length p) (planned w p) ≡ ordered n 16 (planned w p)
+  -- THE ROOT is a folder of all rows
+  root-plan : (p : List ℕ) → 0 < length p → getD p 0 0 ≡ length p → orderFits w (length p) (planned w p) ≡ ordered n 16 (planned w p)
   unfolding orderFits planned
   root-plan [] h e = absurd (omega arith)
   root-plan (zero ∷ p) h e = absurd (omega arith)
   root-plan (suc k ∷ p) h e = rw (eq-eqb (suc k) (suc (length p)) e)
 
-  pub root-not : (p : List ℕ) → (getD p 0 0 ≡ length p → ⊥) → orderFits w (length p) (planned w p) ≡ false
+  root-not : (p : List ℕ) → (getD p 0 0 ≡ length p → ⊥) → orderFits w (length p) (planned w p) ≡ false
   unfolding orderFits planned
   root-not [] e = absurd (e refl)
   root-not (zero ∷ p) e = refl
   root-not (suc k ∷ p) e = rw (ne-eqb (suc k) (suc (length p)) e)
+
+  module _ (p : List ℕ) where
+    pub no-rows : length p ≡ 0 → false ≡ planFits w p
+    no-rows h = sym (rw (not-below 0 (length p) (omega arith)))
+
+    module _ (some : 0 < length p) where
+      pub too-many : 256 < length p → false ≡ planFits w p
+      too-many h = sym (rw (lt-ltb 0 (length p) some, lt-leb (length p) 256 h))
+
+      module _ (few : length p ≤ 256) where
+        pub no-root : (getD p 0 0 ≡ length p → ⊥) → false ≡ planFits w p
+        no-root h = sym (rw (lt-ltb 0 (length p) some, le-leb (length p) 256 few, root-not p h))
+
+        pub root-order : getD p 0 0 ≡ length p → ordered n 16 (planned w p) ≡ planFits w p
+        root-order h = sym (rw (lt-ltb 0 (length p) some, le-leb (length p) 256 few, root-plan p some h))
 
   -- one row more
   planned-more : (i : ℕ) (p : List ℕ) → i < length p → planned w (take (i + 1) p) ≡ planned w (take i p) ++ plannedRow w (getD p i 0)
@@ -175,28 +191,34 @@ module _ (w : ℕ) where
       ap (λ x. planned w (take x (k ∷ p))) z ∙ planned-cons k (take (i + 1) p) ∙ ap (λ l. plannedRow w k ++ l) (planned-more i p (omega arith))
       ∙ sym (append-assoc (plannedRow w k) (planned w (take i p)) (plannedRow w (getD p i 0))) ∙ ap (λ l. l ++ plannedRow w (getD p i 0)) (sym (planned-cons k (take i p)))
 
--- a folder's row
-pub planned-folder : (w k : ℕ) → 0 < k → plannedRow w k ≡ 3 ∷ k ∷ replicate (6 + 4 * w) 0
-unfolding plannedRow
-planned-folder w zero h = absurd (omega arith)
-planned-folder w (suc k) h = refl
-
--- a row of zeros
-pub blank-row : (w : ℕ) → replicate {A = ℕ} (wide w) 0 ≡ 0 ∷ 0 ∷ replicate (6 + 4 * w) 0
+-- a row written over zeros
+blank-row : (w : ℕ) → replicate {A = ℕ} (wide w) 0 ≡ 0 ∷ 0 ∷ replicate (6 + 4 * w) 0
 blank-row w = let e : wide w ≡ suc (suc (6 + 4 * w)) = omega arith in ap (λ x. replicate {A = ℕ} x 0) e
 
+pub sheet-row : (w k : ℕ) (l : List ℕ) → l ≡ replicate (wide w) 0 → k ≡ 0 → set l 1 1 ≡ plannedRow w k
+unfolding plannedRow
+sheet-row w k l e z = ap (λ (x : List ℕ). set x 1 1) (e ∙ blank-row w) ∙ ap (plannedRow w) (sym z)
+
+pub folder-row : (w k : ℕ) (l : List ℕ) → l ≡ replicate (wide w) 0 → 0 < k → set (set l 0 3) 1 k ≡ plannedRow w k
+unfolding plannedRow
+folder-row w zero l e z = absurd (omega arith)
+folder-row w (suc k) l e z = ap (λ (x : List ℕ). set (set x 0 3) 1 (suc k)) (e ∙ blank-row w)
+
 -- IN THE LOOP: the head and the first rows are written
+abbrev head : ℕ → ℕ → List ℕ → List ℕ
+head w device p = headWords w (record { device = device; counter = 0 }) (length p)
+
 pub record Upto (w device : ℕ) (p t : List ℕ) (row : ℕ) : Type 0 where
   pub columns : w ≤ devices
   pub few : length p ≤ 256
   pub room : length t ≡ length p * wide w + wide w
   pub upto : row ≤ length p
-  pub done : take ((row + 1) * wide w) t ≡ headWords w (record { device = device; counter = 0 }) (length p) ++ planned w (take row p)
+  pub done : take ((row + 1) * wide w) t ≡ head w device p ++ planned w (take row p)
 
 module _ (w device : ℕ) (p t : List ℕ) where
   -- no row yet
   pub upto-none : (e : List ℕ) → w ≤ devices → length p ≤ 256 → length t ≡ length p * wide w + wide w → length e ≡ length (take (wide w) t)
-      → e ≡ headWords w (record { device = device; counter = 0 }) (length p) → Upto w device p (e ++ drop (wide w) t) 0
+      → e ≡ head w device p → Upto w device p (e ++ drop (wide w) t) 0
   upto-none e b f r l q =
       let n : wide w ≤ length t = omega arith in
       record {
@@ -204,7 +226,7 @@ module _ (w device : ℕ) (p t : List ℕ) where
         few = f;
         room = head-length (wide w) t e n l ∙ r;
         upto = omega arith;
-        done = head-words (wide w) t e n l ∙ q ∙ sym (append-nil _) ∙ ap (λ l. headWords w (record { device = device; counter = 0 }) (length p) ++ l) (sym (planned-none w));
+        done = head-words (wide w) t e n l ∙ q ∙ sym (append-nil _) ∙ ap (λ l. head w device p ++ l) (sym (planned-none w));
       }
 
   module _ (row : ℕ) (u : Upto w device p t row) where
@@ -223,12 +245,12 @@ module _ (w device : ℕ) (p t : List ℕ) where
       few = u .few;
       room = same-len-mid ((row + 1) * wide w) ((row + 1) * wide w + wide w - (row + 1) * wide w) t e l ∙ u .room;
       upto = omega arith;
-      done = row-words (wide w) t e (row + 1) _ (u .done) (room-here h .0) l ∙ append-assoc (headWords w (record { device = device; counter = 0 }) (length p)) _ e
-          ∙ ap (λ l. headWords w (record { device = device; counter = 0 }) (length p) ++ l) (ap (λ x. planned w (take row p) ++ x) q ∙ sym (planned-more w row p h));
+      done = row-words (wide w) t e (row + 1) _ (u .done) (room-here h .0) l ∙ append-assoc (head w device p) _ e
+          ∙ ap (λ l. head w device p ++ l) (ap (λ x. planned w (take row p) ++ x) q ∙ sym (planned-more w row p h));
     }
 
     -- all rows
     pub upto-all : length p ≤ row → t ≡ plannedTable w device p
     upto-all h =
         sym (take-all ((row + 1) * wide w) t (omega (arith, u .room, add-mul row 1 (wide w), mul-le-mul-right {m = length p} {n = row} (wide w) h))) ∙ u .done
-        ∙ ap (λ l. headWords w (record { device = device; counter = 0 }) (length p) ++ planned w l) (take-all row p h)
+        ∙ ap (λ l. head w device p ++ planned w l) (take-all row p h)

@@ -1,6 +1,6 @@
 -- Zeros, and then the four numbers of the head.
 use Rattle.table.proofs.Heads.{head-set}
-use lib.ListN.{length, length-set, replicate}
+use lib.ListN.{length-set, replicate}
 use native.Mathlib.Omega.{arith}
 use Prim.Native.Nat.{_-_}
 use mathlib.Core.Path.{ap, _∙_}

@@ -12,7 +12,6 @@ use Rattle.paper.specs.Columns.{vec}
 use Rattle.paper.specs.Check.{rowsFit}
 use borrow.Author.Tests.{not-true, not-false}
 use Prim.Native.Nat.{ℕ, _<_, _≤_, _*_, _-_, _+_}
-use mathlib.Core.Bool.{true}
 use lib.ListN.{length, getD, take, drop, length-drop}
 use borrow.Author.Needs.{needs}
 use native.Mathlib.Omega.{arith}

@@ -9,14 +9,15 @@ use borrow.Rule.Slice.PartMut.{putMid}
 use Rattle.paper.specs.declared.Ruling.{Ruling}
 use Rattle.paper.specs.declared.Clock.{Clock}
 use Rattle.paper.specs.Columns.{Vec, covered, alike, full, part, columns}
-use Rattle.paper.specs.Rules.{rule, ruling, numberOf, takes, joins}
+use Rattle.paper.specs.Rules.{numberOf, takes, joins}
 use Rattle.paper.specs.Walk.{raised, ruleAt, ruled}
-use Rattle.paper.specs.Words.{kindOf, rowOf, floorOf, floorAt, newestAt, leastAt, mostAt}
+use Rattle.paper.specs.Words.{floorOf, floorAt, newestAt, leastAt, mostAt}
 use Rattle.laws.proofs.Columns.{part-length}
 use Rattle.vector.specs.Places.{put}
 use Rattle.vector.proofs.Places.{put-back, put-same, length-put}
 use Rattle.summary.specs.Sums.{Sums, sumsRow, mended}
-use Rattle.leaf.specs.Leaves.{Rows, heard, HeardOf, judged, takenFrom, raisedWhere, SheetDone, floored, ruledRow, overRows, overRow}
+use Rattle.leaf.specs.Leaves.{Rows, takenFrom, raisedWhere, SheetDone, floored, ruledRow, overRows, overRow}
+use Rattle.rules.specs.Judged.{judged}
 
 -- what is said at a width is said at one that equals it
 pub rows-at : {v w : ℕ} {s t : List ℕ} {a b : Clock} → w ≡ v → Rows w s t a b → Rows v s t a b
@@ -30,12 +31,6 @@ over-at a b ua ub s t e h = rw e h
 
 pub folder-at : {v w : ℕ} (a b : Clock) (ua : Vec) (s t : List ℕ) {t′ : List ℕ} → w ≡ v → t′ ≡ overRow v a b ua s t → t′ ≡ overRow w a b ua s t
 folder-at a b ua s t e h = rw e h
-
--- the rules' four answers are asked of the stamps and births in two rows
-pub judged-by : (s t : List ℕ) (ka kb : Vec) (p q r u : Bool) {c : Ruling} → HeardOf kb s p q → HeardOf ka t r u
-    → c ≡ rule (kindOf (getD s 0 0)) (kindOf (getD t 0 0)) (heard p q r u) → c ≡ judged s t ka kb
-unfolding ruling rowOf
-judged-by s t ka kb p q r u h k e = e ∙ rw (h .0, h .1, k .0, k .1)
 
 -- words 2 to 7 come back from their loan as those of s
 pub took : (s t e : List ℕ) → floorAt ≤ length s → e ≡ take 6 (drop 2 s) → putMid 2 6 (set t 0 (getD s 0 0)) e ≡ takenFrom s t

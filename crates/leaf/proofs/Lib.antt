@@ -1,5 +1,4 @@
 pub mod LeafWords
-pub mod RulesAtKinds
 pub mod TreeSteps
 pub mod SilentAnswers
 pub mod RowsWritten

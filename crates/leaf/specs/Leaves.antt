@@ -8,11 +8,11 @@ use lib.Dec.{eqb}
 use lib.ListN.{length, getD, take, drop, set}
 use Rattle.paper.specs.declared.Ruling.{Ruling}
 use Rattle.paper.specs.declared.Clock.{Clock}
-use Rattle.paper.specs.Columns.{Vec, covers, full, covered, alike, part, columns}
-use Rattle.paper.specs.Rules.{Heard, ruling, numberOf, takes}
+use Rattle.paper.specs.Columns.{Vec, full, covered, alike, part, columns}
+use Rattle.paper.specs.Rules.{numberOf, takes}
 use Rattle.paper.specs.Tree.{Sheet}
 use Rattle.paper.specs.Walk.{Two, raised, ruleAt, ruled}
-use Rattle.paper.specs.Words.{wide, rowOf, floorAt, newestAt, leastAt, mostAt, floorOf, sheetOf}
+use Rattle.paper.specs.Words.{wide, floorAt, newestAt, leastAt, mostAt, floorOf, sheetOf}
 use Rattle.paper.specs.Devices.{devices}
 use Rattle.vector.specs.Places.{put}
 use Rattle.summary.specs.Sums.{sumsRow, mended}
@@ -28,18 +28,6 @@ pub record Rows (w : ℕ) (s t : List ℕ) (a b : Clock) : Type 0 where
 -- t with what stands at s: words 0 and 2 to 7
 unfoldable pub takenFrom : List ℕ → List ℕ → List ℕ
 takenFrom s t = put 2 (take 6 (drop 2 s)) (set t 0 (getD s 0 0))
-
--- the rules' four answers: has B heard of A's stamp and birth, and A of B's?
-abbrev pub heard : (stampA birthA stampB birthB : Bool) → Heard
-heard p q r s = record { stampA = p; birthA = q; stampB = r; birthB = s }
-
--- what a side with the known time v has heard of the other's row
-abbrev pub HeardOf : Vec → List ℕ → (stamp birth : Bool) → Type 0
-HeardOf v r stamp birth = (stamp ≡ covers v (rowOf r .stamp)) × (birth ≡ covers v (rowOf r .birth))
-
--- what the rules say of two rows of a sheet, with the known time on either side
-abbrev pub judged : List ℕ → List ℕ → Vec → Vec → Ruling
-judged s t ka kb = ruling covers (record { row = rowOf s; known = ka }) (record { row = rowOf t; known = kb })
 
 -- the answer beneath a passed-over folder, by a row's kind
 abbrev pub silentKind : ℕ → ℕ

@@ -1,14 +1,14 @@
 // Rows of a wide table. What stands here stands in the other width's file too, word for word, with the width in the text: so the
 // compiler unrolls every loop over columns. `scripts/copies` holds the two together.
 use crate::full::full_at;
-use crate::ruling::decide;
-use crate::ruling::hears;
-use crate::ruling::is_joined;
-use crate::ruling::is_taken;
-use crate::ruling::number;
 use crate::single::take_row;
 use paper::Clock;
 use paper::Ruling;
+use rules::decide;
+use rules::hears;
+use rules::is_joined;
+use rules::is_taken;
+use rules::number;
 use summary::Summary;
 use summary::width::wide;
 use vector::Vector;
@@ -20,7 +20,8 @@ ghost use lib.ListN.{length};
 ghost use Rattle.paper.specs.Columns.{vec};
 ghost use Rattle.paper.specs.Words.{wide, floorAt, floorOf};
 ghost use Rattle.paper.specs.Widths.{wideColumns};
-ghost use Rattle.leaf.specs.Leaves.{Rows, SheetDone, judged, raisedWhere, overRows, overRow};
+ghost use Rattle.rules.specs.Judged.{judged};
+ghost use Rattle.leaf.specs.Leaves.{Rows, SheetDone, raisedWhere, overRows, overRow};
 
 // The floor in a row.
 pub fn floor_of(row: &[u32]) -> Vector

@@ -1,7 +1,7 @@
 // What the rules say at one row of two tables that are accepted.
 use known::known_time;
-use leaf::ruling::judge;
 use paper::Ruling;
+use rules::judge;
 use vector::row::Row;
 ghost use mathlib.Core.Path.{_≡_};
 ghost use Rattle.paper.specs.Words.{tableOf};

@@ -1,6 +1,6 @@
 -- What either side has heard of the other's row, and the rule that fits.
 use borrow.Author.Needs.{needs}
-use Rattle.leaf.proofs.LeafWords.{judged-by}
+use Rattle.rules.proofs.RulesAtKinds.{judged-by}
 use Rattle.leaf.proofs.narrow.judge.Statement.{statement}
 use Rattle.leaf.proofs.narrow.judge.Tie as tie
 

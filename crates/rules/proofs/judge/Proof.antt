@@ -1,8 +1,8 @@
 -- What either side has heard of the other's row, and the rule that fits.
 use borrow.Author.Needs.{needs}
-use Rattle.leaf.proofs.LeafWords.{judged-by}
-use Rattle.leaf.proofs.ruling.judge.Statement.{statement}
-use Rattle.leaf.proofs.ruling.judge.Tie as tie
+use Rattle.rules.proofs.RulesAtKinds.{judged-by}
+use Rattle.rules.proofs.judge.Statement.{statement}
+use Rattle.rules.proofs.judge.Tie as tie
 
 pub judge-spec : {M : Type 1} → statement M
 judge-spec =

@@ -3,8 +3,8 @@ use mathlib.Core.Path.{ap, _∙_}
 use borrow.Author.Needs.{needs}
 use Rattle.paper.specs.Columns.{vec, covers}
 use Rattle.paper.specs.Words.{rowOf}
-use Rattle.leaf.proofs.ruling.hears.Statement.{statement}
-use Rattle.leaf.proofs.ruling.hears.Tie as tie
+use Rattle.rules.proofs.hears.Statement.{statement}
+use Rattle.rules.proofs.hears.Tie as tie
 
 returns : tie.Need-returns
 unfolding rowOf

@@ -1,10 +1,10 @@
 -- At each place the kinds and answers that led there give the ruling.
 use mathlib.Core.Path.{refl}
-use Rattle.leaf.proofs.RulesAtKinds.{kind-live, kind-removed, kind-never, rule-at, copied}
+use Rattle.rules.proofs.RulesAtKinds.{kind-live, kind-removed, kind-never, rule-at, copied}
 use Rattle.paper.specs.Rules.{rule, news}
 use Rattle.paper.specs.Words.{kindOf}
-use Rattle.leaf.proofs.ruling.decide.Statement.{statement}
-use Rattle.leaf.proofs.ruling.decide.Tie as tie
+use Rattle.rules.proofs.decide.Statement.{statement}
+use Rattle.rules.proofs.decide.Tie as tie
 
 returns : tie.Need-returns
 unfolding rule

@@ -3,26 +3,28 @@
 use Prim.Native.Nat.{ℕ, zero, suc, _+_, _*_, _≤_}
 use mathlib.Core.Path.{_≡_, refl, sym, ap, ap₂, _∙_, subst}
 use mathlib.Core.Bool.{Bool, true, false, not, _||_, cond}
-use mathlib.Core.List.{List}
+use mathlib.Core.List.{List, [], _∷_}
 use mathlib.Core.Logic.{inl, inr}
 use Prim.{tt}
 use native.Mathlib.Omega.{arith}
 use lib.Dec.{ltb, eqb}
 use borrow.Author.Tests.{eqb-true, eqb-false, ne-eqb, ltb-true, lt-ltb}
 use lib.ListN.{length, getD}
+use mathlib.Core.Option.{Option}
+use Rattle.paper.specs.declared.Ruling.{Ruling}
 use Rattle.paper.specs.declared.Stamp.{Stamp}
 use Rattle.paper.specs.declared.Clock.{Clock}
 use Rattle.paper.specs.Columns.{Vec, zeros, greatest}
 use Rattle.paper.specs.Rules.{Kind, never, live, removed, Row}
 use Rattle.paper.specs.Tree.{end, sheet, folder, size, Tree}
 use Rattle.paper.specs.Words.{wide, Table, tableOf, sign, written}
-use Rattle.paper.specs.Refusals.{when, tens, unless}
+use Rattle.paper.specs.Refusals.{first, when, tens, unless}
 use Rattle.paper.specs.Check.{proper, laid, checkOf}
 use Rattle.paper.specs.Good.{GoodFloor, Good, GoodTable}
-use Rattle.paper.specs.Calls.{Changed, Passed, newOf, passOf, settleOf}
-use Rattle.paper.specs.Widths.{Width, widthOf, tableAny, checkAny, eightOrSixteen, newAny, widenRefused, widenOf, twoWidths, passAny, settleAny}
+use Rattle.paper.specs.Calls.{Changed, Passed, newOf, twoRefused, passOf, rulingHere, settleOf}
+use Rattle.paper.specs.Widths.{Width, widthOf, tableAny, checkAny, eightOrSixteen, newAny, widenRefused, widenOf, twoWidths, widthsThen, twoRefusedAny, passAny, settleAny}
 use Rattle.laws.proofs.Bools.{and-both, both-and}
-use Rattle.laws.proofs.Refusals.{first-both, none-so, when-none, tens-none, unless-none, unless-some, unless-at, unless-number}
+use Rattle.laws.proofs.Refusals.{first-both, first-next, first-one, first-flat, first-within, none-so, when-none, tens-none, unless-none, unless-some, unless-at, unless-number}
 use Rattle.laws.proofs.Tables.{sign-at, table-read, written-passes, check-facts, checked-good, checked-size}
 
 -- MORE COLUMNS
@@ -81,6 +83,13 @@ width-wide w (inr e) h = e
 pub width-few : (w : ℕ) → Width w → w ≤ 16
 width-few w (inl e) = omega (arith, e)
 width-few w (inr e) = omega (arith, e)
+
+-- a width that was read is one that there is
+pub read-width : (v : ℕ) (t : List ℕ) → v ≡ widthOf t → Width v
+read-width v t e = rw e (width-either t)
+
+pub read-few : (v : ℕ) (t : List ℕ) → v ≡ widthOf t → v ≤ 16
+read-few v t e = width-few v (read-width v t e)
 
 -- a written table names its width
 pub width-written : (w : ℕ) → Width w → (t : Table) → widthOf (written w t) ≡ w
@@ -192,6 +201,36 @@ two-any s t e =
     let y = first-both (tens (checkAny t)) _ (x .1) in
     let z = first-both (when (not (eqb (widthOf s) (widthOf t))) 19) _ (y .1) in
     record { source = x .0; target = tens-none _ (y .0); one = eqb-true _ _ (none-so _ 18 (z .0)) }
+
+-- what refuses two tables comes before what refuses a call on them
+pub widths-first : (s t : List ℕ) (n : ℕ) (r : List ℕ) → widthsThen s t (first (n ∷ r)) ≡ first (widthsThen s t n ∷ r)
+unfolding widthsThen
+widths-first s t n r = first-within (twoWidths s t) n r
+
+-- all that refuses two tables, in one chain
+pub widths-chain : (s t : List ℕ) (n : ℕ) → widthsThen s t n ≡ first (checkAny s ∷ tens (checkAny t) ∷ when (not (eqb (widthOf s) (widthOf t))) 19 ∷ n ∷ [])
+unfolding widthsThen twoWidths
+widths-chain s t n = first-flat (checkAny s ∷ tens (checkAny t) ∷ when (not (eqb (widthOf s) (widthOf t))) 19 ∷ []) (n ∷ [])
+
+-- nothing refuses: neither the tables and their widths, nor what comes then
+pub widths-none : (s t : List ℕ) (n : ℕ) → widthsThen s t n ≡ 0 → (twoWidths s t ≡ 0) × (n ≡ 0)
+unfolding widthsThen
+widths-none s t n e = let x = first-both (twoWidths s t) _ e in (x .0, first-both n [] (x .1) .0)
+
+pub widths-past : (s t : List ℕ) (n : ℕ) → twoWidths s t ≡ 0 → widthsThen s t n ≡ n
+unfolding widthsThen
+widths-past s t n e = first-next (twoWidths s t) _ e ∙ first-one n
+
+-- at the width that was read of the target
+pub two-at : (v : ℕ) (s t : List ℕ) (row : ℕ) → v ≡ widthOf t → twoRefusedAny s t row ≡ 0 → (twoRefused v s t row ≡ 0) × (v ≤ 16)
+two-at v s t row e h = (ap (λ v. twoRefused v s t row) e ∙ widths-none s t _ h .1, read-few v t e)
+
+-- what the rules say at a row of two tables of one width
+abbrev pub rulingAny : List ℕ → List ℕ → ℕ → Option Ruling
+rulingAny s t row = rulingHere (tableOf (widthOf t) s) (tableAny t) row
+
+pub ruling-any : (v : ℕ) (s t : List ℕ) (row : ℕ) (o : Option Ruling) → v ≡ widthOf t → o ≡ rulingHere (tableOf v s) (tableOf v t) row → o ≡ rulingAny s t row
+ruling-any v s t row o e h = h ∙ ap (λ v. rulingHere (tableOf v s) (tableOf v t) row) e
 
 pub record Pass-any (s t : List ℕ) (row : ℕ) (list : List ℕ) : Type 0 where
   pub two : Two-any s t

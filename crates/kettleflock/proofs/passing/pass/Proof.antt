@@ -3,8 +3,7 @@ use mathlib.Core.Path.{_≡_, sym, ap, _∙_}
 use Rattle.kettleflock.proofs.Outcomes.{pass-any-not}
 use Rattle.paper.specs.Calls.{passRefused, passOf}
 use Rattle.paper.specs.Widths.{widthOf, twoWidths}
-use Rattle.laws.proofs.Widths.{pass-through}
-use Rattle.two.proofs.TwoTables.{widths-none, read-width}
+use Rattle.laws.proofs.Widths.{pass-through, widths-none, read-width}
 use borrow.Author.Needs.{needs}
 use Rattle.kettleflock.proofs.passing.pass.Statement.{statement}
 use Rattle.kettleflock.proofs.passing.pass.Tie as tie

@@ -1,6 +1,6 @@
 -- A folder, and a sheet by the event.
 use borrow.Author.Tests.{eq-eqb, ne-eqb}
-use Rattle.refused.proofs.EventAndPass.{fits-one, fits-other}
+use Rattle.refused.proofs.EventFits.{fits-one, fits-other}
 use mathlib.Core.Path.{sym}
 use Rattle.refused.proofs.of_table.fits_kind.Statement.{statement}
 use Rattle.refused.proofs.of_table.fits_kind.Tie as tie

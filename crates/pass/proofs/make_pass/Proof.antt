@@ -48,32 +48,8 @@ done : (c : tie.After-pass-row)
     (passDone (begin (read c) .args .columns) (tableOf (begin (read c) .args .columns) (begin (read c) .args .source .now)) (tableOf (begin (read c) .args .columns) (begin (read c) .args .target .now)) (begin (read c) .args .row))
 done c = pass-changed (begin (read c) .args .columns) _ _ _ _ (begin (read c) .pre .0) (begun (read c)) (walked c)
 
-above-row-requires : tie.Need-above-row-requires
-above-row-requires c κs = let s : tie.Start = search in let p = accepted (s .args .columns) _ _ _ _ (s .pre .0) in ((p .source, few (s)), p .inSource)
-
-above-row-requires-2 : tie.Need-above-row-requires-2
-above-row-requires-2 c κs =
-    let s : tie.Start = search in
-    let p = accepted (s .args .columns) _ _ _ _ (s .pre .0) in ((p .target, few (s)), p .inTarget)
-
 pass-row-requires : tie.Need-pass-row-requires
 pass-row-requires c κs = (begin (c .before .before .before) .pre .1, pass-begins (begin (c .before .before .before) .args .columns) _ _ _ _ (begin (c .before .before .before) .pre .0) (begun (c .before .before .before)))
-
-mend-above-requires : tie.Need-mend-above-requires
-mend-above-requires c κs =
-    let pass-row : tie.After-pass-row = search in
-    let y = siblings (done (pass-row)) in (y .0, (y .1, begin (read (pass-row)) .pre .1))
-
-cast-result : tie.Need-cast-result
-cast-result c =
-    let pass-row : tie.After-pass-row = search in
-    let w = pass-row in
-    omega (arith, count-few (begin (read w) .args .columns) _ _ _ _ (begin (read w) .pre .0) (begun (read w)) (walked w))
-
-same-length : tie.Need-same-length
-same-length c =
-    let pass-row : tie.After-pass-row = search in
-    same-long (done (pass-row)) (c .before .before .mend-above .last .0) (c .before .before .mend-above .kept .0)
 
 returns : tie.Need-returns
 returns c =
@@ -85,11 +61,16 @@ pub make-pass-spec : {M : Type 1} → statement M
 make-pass-spec =
     tie.close
     (tie.spec
-    (λ c κs. omega (arith, room (c .before .before .before))) (λ c κs. let s : tie.Start = search in omega (arith, room (s))) above-row-requires
-    above-row-requires-2 (λ c. let h = few (begin c) in omega arith) (λ c. let h = few (begin c) in omega arith) (λ c. omega (arith, room (begin c)))
-    (λ c. omega (arith, room (begin c))) (λ c. omega (arith, room (begin c))) (λ c. omega (arith, room (begin c)))
-    (λ c. omega (arith, room (begin c))) (λ c. search needs) (λ c. search needs) (λ c. room (begin c) .inSource)
-    (λ c. omega (arith, room (begin (c .before)))) (λ c. search needs) (λ c. search needs) (λ c. room (begin (c .before)) .inTarget)
-    pass-row-requires (λ c. let h = few (begin (read (c .before .before .before .before))) in omega arith)
-    (λ c. done (c .before .before .before .before) .room) (λ c. done (c .before .before .before .before) .room) (λ c. search needs)
-    mend-above-requires cast-result same-length (λ c. let pass-row : tie.After-pass-row = search in pass-row .pass-row .kept .1 .1 .0) returns)
+    (λ c κs. omega (arith, room (c .before .before .before))) (λ c κs. let s : tie.Start = search in omega (arith, room (s)))
+    (λ c κs. let s : tie.Start = search in let p = accepted (s .args .columns) _ _ _ _ (s .pre .0) in ((p .source, few (s)), p .inSource))
+    (λ c κs. let s : tie.Start = search in let p = accepted (s .args .columns) _ _ _ _ (s .pre .0) in ((p .target, few (s)), p .inTarget))
+    (λ c. let h = few (begin c) in omega arith) (λ c. let h = few (begin c) in omega arith) (λ c. omega (arith, room (begin c)))
+    (λ c. omega (arith, room (begin c))) (λ c. omega (arith, room (begin c))) (λ c. omega (arith, room (begin c))) (λ c. omega (arith, room (begin c)))
+    (λ c. search needs) (λ c. search needs) (λ c. room (begin c) .inSource) (λ c. omega (arith, room (begin (c .before)))) (λ c. search needs)
+    (λ c. search needs) (λ c. room (begin (c .before)) .inTarget) pass-row-requires
+    (λ c. let h = few (begin (read (c .before .before .before .before))) in omega arith) (λ c. done (c .before .before .before .before) .room)
+    (λ c. done (c .before .before .before .before) .room) (λ c. search needs)
+    (λ c κs. let pass-row : tie.After-pass-row = search in let y = siblings (done (pass-row)) in (y .0, (y .1, begin (read (pass-row)) .pre .1)))
+    (λ c. let pass-row : tie.After-pass-row = search in let w = pass-row in omega (arith, count-few (begin (read w) .args .columns) _ _ _ _ (begin (read w) .pre .0) (begun (read w)) (walked w)))
+    (λ c. let pass-row : tie.After-pass-row = search in same-long (done (pass-row)) (c .before .before .mend-above .last .0) (c .before .before .mend-above .kept .0))
+    (λ c. let pass-row : tie.After-pass-row = search in pass-row .pass-row .kept .1 .1 .0) returns)

@@ -33,27 +33,18 @@ sized c =
     let p = paired _ _ _ _ (widths-none _ _ _ (none (search)) .1) in
     size-word (widthOf (s .args .target .now)) _ (p .target) _ (p .inTarget) ∙ ap (λ v. getD (s .args .target .now) ((s .args .row + 1) * wide v + 1) 0) (sym (c .columns-of .ensures))
 
-returns : tie.Need-returns
-unfolding passRefused
-returns c = let e = c .before .two-refused .ensures in e ∙ sym (widths-first _ _ _ _ ∙ first-here _ _ (λ z. c .if1 .taken (e ∙ z)))
-
-returns-2 : tie.Need-returns-2
-unfolding passRefused
-returns-2 c = sym (widths-first _ _ _ _ ∙ first-next _ _ (none (search)) ∙ first-failed 8 _ (ne-eqb _ _ (λ z. c .if2 .taken (z ∙ sized (search)))))
-
-returns-3 : tie.Need-returns-3
-unfolding passRefused
-returns-3 c = sym (widths-first _ _ _ _ ∙ first-next _ _ (none (search)) ∙ first-held _ _ (eq-eqb _ _ (c .if2 .left ∙ sym (sized (search)))) ∙ first-none)
-
 few : (c : tie.After-columns-of) → c .columns-of .result ≤ 16
 few c = let s : tie.Start = search in read-few _ (s .args .target .now) (c .columns-of .ensures)
 
 pub pass-refused-spec : {M : Type 1} → statement M
+unfolding passRefused
 pass-refused-spec =
     tie.close
     (tie.spec
-    (λ c κs. search needs) returns (λ c κs. search needs) (λ c. let h = few c in omega arith) (λ c. let h = few c in omega arith) (λ c. search needs)
+    (λ c κs. search needs) (λ c. let e = c .before .two-refused .ensures in e ∙ sym (widths-first _ _ _ _ ∙ first-here _ _ (λ z. c .if1 .taken (e ∙ z))))
+    (λ c κs. search needs) (λ c. let h = few c in omega arith) (λ c. let h = few c in omega arith) (λ c. search needs)
     (λ c. let r = at c in omega (arith, r .room, r .few)) (λ c. let r = at c in omega (arith, r .room, r .few))
     (λ c. let r = at c in omega (arith, r .room, r .few)) (λ c. let r = at (c .before) in omega (arith, r .room))
     (λ c. let s : tie.Start = search in omega (arith, c .shared-slice-known4 .given ((s .args .row + 1) * wide (c .before .columns-of .result) + 1)))
-    returns-2 returns-3)
+    (λ c. sym (widths-first _ _ _ _ ∙ first-next _ _ (none (search)) ∙ first-failed 8 _ (ne-eqb _ _ (λ z. c .if2 .taken (z ∙ sized (search))))))
+    (λ c. sym (widths-first _ _ _ _ ∙ first-next _ _ (none (search)) ∙ first-held _ _ (eq-eqb _ _ (c .if2 .left ∙ sym (sized (search)))) ∙ first-none)))

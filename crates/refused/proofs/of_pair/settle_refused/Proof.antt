@@ -44,15 +44,6 @@ last c =
     widths-first _ _ _ _ ∙ first-next _ _ (none (search)) ∙ first-held _ _ (named (search)) ∙ first-passed _ _ (sheet (search)) ∙ first-held _ _ (conflict c)
     ∙ first-one _
 
-returns : tie.Need-returns
-unfolding settleRefused
-returns c = let e = c .before .two-refused .ensures in e ∙ sym (widths-first _ _ _ _ ∙ first-here _ _ (λ z. c .if1 .taken (e ∙ z)))
-
-returns-2 : tie.Need-returns-2
-unfolding settleRefused
-returns-2 c =
-    sym (widths-first _ _ _ _ ∙ first-next _ _ (none (search)) ∙ first-failed 15 _ (sym (c .before .is-one-to-three .ensures) ∙ not-true _ (c .if2 .taken)))
-
 returns-3 : tie.Need-returns-3
 unfolding settleRefused
 returns-3 c =
@@ -69,24 +60,17 @@ returns-4 c =
 stamping : (c : tie.After-is-stamping) → let s : tie.Start = search in stamps (choiceNamed (s .args .choice)) ≡ c .is-stamping .result
 stamping c = sym (c .is-stamping .ensures)
 
-returns-5 : tie.Need-returns-5
-unfolding when
-returns-5 c = let k : tie.Then5 = search in sym (last (search) ∙ rw (stamping (search) ∙ k .if5 .taken, eq-eqb _ _ (c .if6 .taken)))
-
-returns-6 : tie.Need-returns-6
-unfolding when
-returns-6 c = let k : tie.Then5 = search in sym (last (search) ∙ rw (stamping (search) ∙ k .if5 .taken, ne-eqb _ _ (c .if6 .left)))
-
-returns-7 : tie.Need-returns-7
-unfolding when
-returns-7 c = sym (last (search) ∙ rw (stamping (search) ∙ c .if5 .left))
-
 pub settle-refused-spec : {M : Type 1} → statement M
+unfolding settleRefused when
 settle-refused-spec =
     tie.close
     (tie.spec
-    (λ c κs. search needs) returns (λ c κs. search needs) returns-2 (λ c κs. search needs)
-    (λ c κs. two-at _ _ _ _ (c .columns-of .ensures) (none (search))) (λ c κs. search needs) returns-3 (λ c κs. search needs) returns-4
+    (λ c κs. search needs) (λ c. let e = c .before .two-refused .ensures in e ∙ sym (widths-first _ _ _ _ ∙ first-here _ _ (λ z. c .if1 .taken (e ∙ z))))
     (λ c κs. search needs)
+    (λ c. sym (widths-first _ _ _ _ ∙ first-next _ _ (none (search)) ∙ first-failed 15 _ (sym (c .before .is-one-to-three .ensures) ∙ not-true _ (c .if2 .taken))))
+    (λ c κs. search needs) (λ c κs. two-at _ _ _ _ (c .columns-of .ensures) (none (search))) (λ c κs. search needs) returns-3 (λ c κs. search needs)
+    returns-4 (λ c κs. search needs)
     (λ c. let k : tie.After-columns-of = search in let h = two-at _ _ _ _ (k .columns-of .ensures) (none (search)) in omega (arith, begin-both _ _ _ _ (h .1) (h .0) .1 .head))
-    returns-5 returns-6 returns-7)
+    (λ c. let k : tie.Then5 = search in sym (last (search) ∙ rw (stamping (search) ∙ k .if5 .taken, eq-eqb _ _ (c .if6 .taken))))
+    (λ c. let k : tie.Then5 = search in sym (last (search) ∙ rw (stamping (search) ∙ k .if5 .taken, ne-eqb _ _ (c .if6 .left))))
+    (λ c. sym (last (search) ∙ rw (stamping (search) ∙ c .if5 .left))))

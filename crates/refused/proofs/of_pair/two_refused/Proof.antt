@@ -27,11 +27,6 @@ one-width c = sym (c .before .columns-of2 .ensures) ∙ c .if3 .left ∙ c .befo
 source-at : (c : tie.Else3) → let s : tie.Start = search in checkOf (widthOf (s .args .target .now)) (s .args .source .now) ≡ 0
 source-at c = let s : tie.Start = search in ap (λ v. checkOf v (s .args .source .now)) (sym (one-width c)) ∙ source (search)
 
-returns-2 : tie.Need-returns-2
-returns-2 c =
-    ap (λ n. n + 10) (c .before .check2 .ensures)
-    ∙ sym (widths-chain _ _ _ ∙ first-next _ _ (source (search)) ∙ tens-met _ _ (λ e. c .if2 .taken (c .before .check2 .ensures ∙ e)))
-
 returns-3 : tie.Need-returns-3
 returns-3 c =
     let k : tie.After-columns-of = search in
@@ -59,5 +54,7 @@ two-refused-spec =
     tie.close
     (tie.spec
     (λ c κs. search needs) (λ c. let e = c .before .check .ensures in e ∙ sym (widths-chain _ _ _ ∙ first-here _ _ (λ z. c .if1 .taken (e ∙ z))))
-    (λ c κs. search needs) (λ c. let s : tie.Start = search in omega (arith, c .before .check2 .ensures, check-small (widthOf (s .args .target .now)) (s .args .target .now)))
-    returns-2 (λ c κs. search needs) (λ c κs. search needs) returns-3 unlike-requires returns-4)
+    (λ c κs. search needs)
+    (λ c. let s : tie.Start = search in omega (arith, c .before .check2 .ensures, check-small (widthOf (s .args .target .now)) (s .args .target .now)))
+    (λ c. ap (λ n. n + 10) (c .before .check2 .ensures) ∙ sym (widths-chain _ _ _ ∙ first-next _ _ (source (search)) ∙ tens-met _ _ (λ e. c .if2 .taken (c .before .check2 .ensures ∙ e))))
+    (λ c κs. search needs) (λ c κs. search needs) returns-3 unlike-requires returns-4)

@@ -41,20 +41,6 @@ six c = let s : tie.Start = search in ap (λ (x : Clock). later x (a s .tree)) (
 seven : (c : tie.After-names-later2) → let s : tie.Start = search in later (a s .clock) (b s .tree) ≡ c .names-later2 .result
 seven c = let s : tie.Start = search in ap (λ (x : Clock). later x (b s .tree)) (sym (clock-a (search))) ∙ sym (c .names-later2 .ensures)
 
-returns : tie.Need-returns
-unfolding unlike
-returns c = sym (first-failed 3 _ (sym (c .before .same-shape .ensures) ∙ not-true _ (c .if1 .taken)))
-
-returns-2 : tie.Need-returns-2
-unfolding unlike
-returns-2 c =
-    sym (first-held _ _ (same (search))
-    ∙ first-met 4 _ (ap₂ (λ (x y : Clock). eqb (x .device) (y .device)) (sym (clock-a (search))) (sym (clock-b (search))) ∙ eq-eqb _ _ (c .if2 .taken)))
-
-returns-3 : tie.Need-returns-3
-unfolding unlike
-returns-3 c = sym (first-held _ _ (same (search)) ∙ first-passed _ _ (apart (search)) ∙ first-met 5 _ (six (search) ∙ c .if3 .taken))
-
 returns-4 : tie.Need-returns-4
 unfolding unlike
 returns-4 c =
@@ -68,22 +54,18 @@ row-left c =
     let three : tie.Else3 = search in
     first-held _ _ (same (search)) ∙ first-passed _ _ (apart (search)) ∙ first-passed _ _ (six (search) ∙ three .if3 .left) ∙ first-passed _ _ (seven (search) ∙ c .if4 .left) ∙ first-one _
 
-returns-5 : tie.Need-returns-5
-returns-5 c = let s : tie.Start = search in sym (row-left (search) ∙ when-true _ _ (no-row _ _ (s .pre .1) _ (c .if5 .taken)))
-
-returns-6 : tie.Need-returns-6
-returns-6 c = let s : tie.Start = search in sym (row-left (search) ∙ when-false _ _ (row-there _ _ (s .pre .1) _ (c .if5 .left)))
-
-names-later-requires : tie.Need-names-later-requires
-names-later-requires c κs = let s : tie.Start = search in (s .pre .0, clock-device _ _ (s .pre .1) _ (clock-b (search)), s .pre .2)
-
-names-later-requires-2 : tie.Need-names-later-requires-2
-names-later-requires-2 c κs = let s : tie.Start = search in (s .pre .1, clock-device _ _ (s .pre .0) _ (clock-a (search)), s .pre .2)
-
 pub unlike-spec : {M : Type 1} → statement M
+unfolding unlike
 unlike-spec =
     tie.close
     (tie.spec
-    (λ c κs. search needs) returns (λ c κs. let s : tie.Start = search in omega (arith, table-long _ _ (s .pre .0)))
-    (λ c κs. let s : tie.Start = search in omega (arith, table-long _ _ (s .pre .1))) returns-2 names-later-requires returns-3 names-later-requires-2
-    returns-4 (λ c. let s : tie.Start = search in omega (arith, table-long _ _ (s .pre .1))) returns-5 returns-6)
+    (λ c κs. search needs) (λ c. sym (first-failed 3 _ (sym (c .before .same-shape .ensures) ∙ not-true _ (c .if1 .taken))))
+    (λ c κs. let s : tie.Start = search in omega (arith, table-long _ _ (s .pre .0)))
+    (λ c κs. let s : tie.Start = search in omega (arith, table-long _ _ (s .pre .1)))
+    (λ c. sym (first-held _ _ (same (search)) ∙ first-met 4 _ (ap₂ (λ (x y : Clock). eqb (x .device) (y .device)) (sym (clock-a (search))) (sym (clock-b (search))) ∙ eq-eqb _ _ (c .if2 .taken))))
+    (λ c κs. let s : tie.Start = search in (s .pre .0, clock-device _ _ (s .pre .1) _ (clock-b (search)), s .pre .2))
+    (λ c. sym (first-held _ _ (same (search)) ∙ first-passed _ _ (apart (search)) ∙ first-met 5 _ (six (search) ∙ c .if3 .taken)))
+    (λ c κs. let s : tie.Start = search in (s .pre .1, clock-device _ _ (s .pre .0) _ (clock-a (search)), s .pre .2)) returns-4
+    (λ c. let s : tie.Start = search in omega (arith, table-long _ _ (s .pre .1)))
+    (λ c. let s : tie.Start = search in sym (row-left (search) ∙ when-true _ _ (no-row _ _ (s .pre .1) _ (c .if5 .taken))))
+    (λ c. let s : tie.Start = search in sym (row-left (search) ∙ when-false _ _ (row-there _ _ (s .pre .1) _ (c .if5 .left)))))

@@ -42,30 +42,15 @@ kind c =
     let t = s .args .table .now in
     sym (ap (λ v. eqb (getD t ((s .args .row + 1) * wide v) 0) 3) (c .columns-of .ensures) ∙ folder-word (widthOf t) t (checked (search)) _ (there (search)))
 
-returns : tie.Need-returns
-unfolding beneathRefused
-returns c = let e = c .before .check .ensures in e ∙ sym (first-here _ _ (λ z. c .if1 .taken (e ∙ z)))
-
-returns-2 : tie.Need-returns-2
-unfolding beneathRefused
-returns-2 c = let e = checked (search) in sym (first-next _ _ e ∙ first-met 7 _ (rw (no-row _ _ e _ (c .if2 .taken))))
-
-returns-3 : tie.Need-returns-3
-unfolding beneathRefused
-returns-3 c =
-    let e = checked (search) in
-    sym (first-next _ _ e ∙ first-met 7 _ (rw (row-there _ _ e _ (there (search)), kind (search), ne-eqb _ _ (c .if3 .taken))))
-
-returns-4 : tie.Need-returns-4
-unfolding beneathRefused
-returns-4 c =
-    let e = checked (search) in
-    sym (first-next _ _ e ∙ first-passed _ _ (rw (row-there _ _ e _ (there (search)), kind (search), eq-eqb _ _ (c .if3 .left))) ∙ first-none)
-
 pub beneath-refused-spec : {M : Type 1} → statement M
+unfolding beneathRefused
 beneath-refused-spec =
     tie.close
     (tie.spec
-    (λ c κs. search needs) returns (λ c. omega (arith, check-facts _ _ (checked (search)) .head .long)) returns-2 (λ c κs. search needs)
+    (λ c κs. search needs) (λ c. let e = c .before .check .ensures in e ∙ sym (first-here _ _ (λ z. c .if1 .taken (e ∙ z))))
+    (λ c. omega (arith, check-facts _ _ (checked (search)) .head .long))
+    (λ c. let e = checked (search) in sym (first-next _ _ e ∙ first-met 7 _ (rw (no-row _ _ e _ (c .if2 .taken))))) (λ c κs. search needs)
     (λ c. let h = few c in omega arith) (λ c. let h = few c in omega arith) (λ c. search needs) (λ c. let r = at c in omega (arith, r .room, r .few))
-    (λ c. let r = at c in omega (arith, r .room, r .few)) (λ c. let r = at (c .before) in omega (arith, r .room)) returns-3 returns-4)
+    (λ c. let r = at c in omega (arith, r .room, r .few)) (λ c. let r = at (c .before) in omega (arith, r .room))
+    (λ c. let e = checked (search) in sym (first-next _ _ e ∙ first-met 7 _ (rw (row-there _ _ e _ (there (search)), kind (search), ne-eqb _ _ (c .if3 .taken)))))
+    (λ c. let e = checked (search) in sym (first-next _ _ e ∙ first-passed _ _ (rw (row-there _ _ e _ (there (search)), kind (search), eq-eqb _ _ (c .if3 .left))) ∙ first-none)))

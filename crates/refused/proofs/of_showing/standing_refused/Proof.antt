@@ -19,21 +19,12 @@ folder c =
     let k : tie.After-columns-of = search in
     ap isFolder (sym (ruling-any _ _ _ _ _ (k .columns-of .ensures) (r .ruling-at .ensures))) ∙ sym (c .is-folder .ensures)
 
-returns : tie.Need-returns
-unfolding standingRefused
-returns c = let e = c .before .two-refused .ensures in e ∙ sym (widths-first _ _ _ _ ∙ first-here _ _ (λ z. c .if1 .taken (e ∙ z)))
-
-returns-2 : tie.Need-returns-2
-unfolding standingRefused
-returns-2 c = sym (widths-first _ _ _ _ ∙ first-next _ _ (none (search)) ∙ first-met 9 _ (folder (search) ∙ c .if2 .taken))
-
-returns-3 : tie.Need-returns-3
-unfolding standingRefused
-returns-3 c = sym (widths-first _ _ _ _ ∙ first-next _ _ (none (search)) ∙ first-passed _ _ (folder (search) ∙ c .if2 .left) ∙ first-none)
-
 pub standing-refused-spec : {M : Type 1} → statement M
+unfolding standingRefused
 standing-refused-spec =
     tie.close
     (tie.spec
-    (λ c κs. search needs) returns (λ c κs. search needs) (λ c κs. two-at _ _ _ _ (c .columns-of .ensures) (none (search)))
-    (λ c κs. search needs) returns-2 returns-3)
+    (λ c κs. search needs) (λ c. let e = c .before .two-refused .ensures in e ∙ sym (widths-first _ _ _ _ ∙ first-here _ _ (λ z. c .if1 .taken (e ∙ z))))
+    (λ c κs. search needs) (λ c κs. two-at _ _ _ _ (c .columns-of .ensures) (none (search))) (λ c κs. search needs)
+    (λ c. sym (widths-first _ _ _ _ ∙ first-next _ _ (none (search)) ∙ first-met 9 _ (folder (search) ∙ c .if2 .taken)))
+    (λ c. sym (widths-first _ _ _ _ ∙ first-next _ _ (none (search)) ∙ first-passed _ _ (folder (search) ∙ c .if2 .left) ∙ first-none)))

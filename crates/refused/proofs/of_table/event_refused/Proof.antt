@@ -58,18 +58,6 @@ last c =
     let e = checked (search) in
     first-next _ _ e ∙ first-held _ _ (named (search)) ∙ first-passed _ _ (row-there _ _ e _ (there (search))) ∙ first-held _ _ (fitting (search) ∙ not-false _ (c .if4 .left)) ∙ first-one _
 
-returns : tie.Need-returns
-unfolding eventRefused
-returns c = let e = c .before .check .ensures in e ∙ sym (first-here _ _ (λ z. c .if1 .taken (e ∙ z)))
-
-returns-2 : tie.Need-returns-2
-unfolding eventRefused
-returns-2 c = sym (first-next _ _ (checked (search)) ∙ first-failed 15 _ (sym (c .before .is-one-to-three .ensures) ∙ not-true _ (c .if2 .taken)))
-
-returns-3 : tie.Need-returns-3
-unfolding eventRefused
-returns-3 c = let e = checked (search) in sym (first-next _ _ e ∙ first-held _ _ (named (search)) ∙ first-met 7 _ (no-row _ _ e _ (c .if3 .taken)))
-
 returns-4 : tie.Need-returns-4
 unfolding eventRefused
 returns-4 c =
@@ -78,12 +66,16 @@ returns-4 c =
     ∙ first-failed 9 _ (fitting (search) ∙ not-true _ (c .if4 .taken)))
 
 pub event-refused-spec : {M : Type 1} → statement M
+unfolding eventRefused
 event-refused-spec =
     tie.close
     (tie.spec
-    (λ c κs. search needs) returns (λ c κs. search needs) returns-2
-    (λ c. let h = check-facts _ _ (checked (search)) .head in omega (arith, h .long, h .few)) returns-3 (λ c κs. search needs)
-    (λ c. let h = few c in omega arith) (λ c. let h = few c in omega arith) (λ c. search needs) (λ c. let r = at c in omega (arith, r .room, r .few))
-    (λ c. let r = at c in omega (arith, r .room, r .few)) (λ c. let r = at (c .before) in omega (arith, r .room)) (λ c κs. search needs) returns-4
+    (λ c κs. search needs) (λ c. let e = c .before .check .ensures in e ∙ sym (first-here _ _ (λ z. c .if1 .taken (e ∙ z)))) (λ c κs. search needs)
+    (λ c. sym (first-next _ _ (checked (search)) ∙ first-failed 15 _ (sym (c .before .is-one-to-three .ensures) ∙ not-true _ (c .if2 .taken))))
+    (λ c. let h = check-facts _ _ (checked (search)) .head in omega (arith, h .long, h .few))
+    (λ c. let e = checked (search) in sym (first-next _ _ e ∙ first-held _ _ (named (search)) ∙ first-met 7 _ (no-row _ _ e _ (c .if3 .taken))))
+    (λ c κs. search needs) (λ c. let h = few c in omega arith) (λ c. let h = few c in omega arith) (λ c. search needs)
+    (λ c. let r = at c in omega (arith, r .room, r .few)) (λ c. let r = at c in omega (arith, r .room, r .few))
+    (λ c. let r = at (c .before) in omega (arith, r .room)) (λ c κs. search needs) returns-4
     (λ c. let h = check-facts _ _ (checked (search)) .head in omega (arith, h .long, h .few))
     (λ c. sym (last (search) ∙ when-true _ _ (eq-eqb _ _ (c .if5 .taken)))) (λ c. sym (last (search) ∙ when-false _ _ (ne-eqb _ _ (c .if5 .left)))))

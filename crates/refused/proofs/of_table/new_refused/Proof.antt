@@ -28,29 +28,14 @@ small c =
     let s : tie.Start = search in
     words-small (length (s .args .plan .now)) (wide (s .args .columns)) (plan-few (s .args .columns) _ (plan (search) ∙ not-false _ (c .if2 .left))) (omega (arith, s .pre))
 
-returns-2 : tie.Need-returns-2
-unfolding newRefused
-returns-2 c = sym (first-passed _ _ (device (search)) ∙ first-failed 1 _ (plan (search) ∙ not-true _ (c .if2 .taken)))
-
-returns-3 : tie.Need-returns-3
-unfolding newRefused
-returns-3 c =
-    let k : tie.Else2 = search in
-    sym (first-passed _ _ (device (search)) ∙ first-held _ _ (plan (search) ∙ not-false _ (k .if2 .left)) ∙ first-failed 8 _ (ne-eqb _ _ (c .if3 .taken)))
-
-returns-4 : tie.Need-returns-4
-unfolding newRefused
-returns-4 c =
-    let k : tie.Else2 = search in
-    sym (first-passed _ _ (device (search)) ∙ first-held _ _ (plan (search) ∙ not-false _ (k .if2 .left)) ∙ first-held _ _ (eq-eqb _ _ (c .if3 .left)) ∙ first-none)
-
-returns : tie.Need-returns
-unfolding newRefused
-returns c = let s : tie.Start = search in sym (first-met 16 _ (le-leb (s .args .columns) (s .args .device) (omega (arith, c .if1 .taken))))
-
 pub new-refused-spec : {M : Type 1} → statement M
+unfolding newRefused
 new-refused-spec =
     tie.close
     (tie.spec
-    returns (λ c κs. search needs) returns-2 (λ c. let s : tie.Start = search in omega (arith, s .pre)) (λ c. let s : tie.Start = search in omega (arith, s .pre))
-    (λ c. let s : tie.Start = search in omega (arith, small c, s .pre)) (λ c. let s : tie.Start = search in omega (arith, small c, s .pre)) returns-3 returns-4)
+    (λ c. let s : tie.Start = search in sym (first-met 16 _ (le-leb (s .args .columns) (s .args .device) (omega (arith, c .if1 .taken)))))
+    (λ c κs. search needs) (λ c. sym (first-passed _ _ (device (search)) ∙ first-failed 1 _ (plan (search) ∙ not-true _ (c .if2 .taken))))
+    (λ c. let s : tie.Start = search in omega (arith, s .pre)) (λ c. let s : tie.Start = search in omega (arith, s .pre))
+    (λ c. let s : tie.Start = search in omega (arith, small c, s .pre)) (λ c. let s : tie.Start = search in omega (arith, small c, s .pre))
+    (λ c. let k : tie.Else2 = search in sym (first-passed _ _ (device (search)) ∙ first-held _ _ (plan (search) ∙ not-false _ (k .if2 .left)) ∙ first-failed 8 _ (ne-eqb _ _ (c .if3 .taken))))
+    (λ c. let k : tie.Else2 = search in sym (first-passed _ _ (device (search)) ∙ first-held _ _ (plan (search) ∙ not-false _ (k .if2 .left)) ∙ first-held _ _ (eq-eqb _ _ (c .if3 .left)) ∙ first-none)))

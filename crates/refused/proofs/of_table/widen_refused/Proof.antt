@@ -18,26 +18,14 @@ checked c = sym (c .before .check .ensures) ∙ c .if1 .left
 narrow : (c : tie.Else2) → let s : tie.Start = search in eqb (widthOf (s .args .table .now)) wideColumns ≡ false
 narrow c = ne-eqb _ _ (λ e. c .if2 .left (c .before .columns-of .ensures ∙ e))
 
-returns : tie.Need-returns
-unfolding widenRefused
-returns c = let e = c .before .check .ensures in e ∙ sym (first-here _ _ (λ z. c .if1 .taken (e ∙ z)))
-
-returns-2 : tie.Need-returns-2
-unfolding widenRefused
-returns-2 c = sym (first-next _ _ (checked (search)) ∙ first-met 18 _ (eq-eqb _ _ (sym (c .before .columns-of .ensures) ∙ c .if2 .taken)))
-
-returns-3 : tie.Need-returns-3
-unfolding widenRefused
-returns-3 c = sym (first-next _ _ (checked (search)) ∙ first-passed _ _ (narrow (search)) ∙ first-failed 8 _ (ne-eqb _ _ (c .if3 .taken)))
-
-returns-4 : tie.Need-returns-4
-unfolding widenRefused
-returns-4 c = sym (first-next _ _ (checked (search)) ∙ first-passed _ _ (narrow (search)) ∙ first-held _ _ (eq-eqb _ _ (c .if3 .left)) ∙ first-none)
-
 pub widen-refused-spec : {M : Type 1} → statement M
+unfolding widenRefused
 widen-refused-spec =
     tie.close
     (tie.spec
-    (λ c κs. search needs) returns (λ c κs. search needs) returns-2 (λ c. omega (arith, check-facts _ _ (checked (search)) .head .long))
-    (λ c. omega (arith, c .shared-slice-known3 .given 2)) (λ c. omega (arith, check-facts _ _ (checked (search)) .head .few))
-    (λ c. omega (arith, check-facts _ _ (checked (search)) .head .few)) returns-3 returns-4)
+    (λ c κs. search needs) (λ c. let e = c .before .check .ensures in e ∙ sym (first-here _ _ (λ z. c .if1 .taken (e ∙ z)))) (λ c κs. search needs)
+    (λ c. sym (first-next _ _ (checked (search)) ∙ first-met 18 _ (eq-eqb _ _ (sym (c .before .columns-of .ensures) ∙ c .if2 .taken))))
+    (λ c. omega (arith, check-facts _ _ (checked (search)) .head .long)) (λ c. omega (arith, c .shared-slice-known3 .given 2))
+    (λ c. omega (arith, check-facts _ _ (checked (search)) .head .few)) (λ c. omega (arith, check-facts _ _ (checked (search)) .head .few))
+    (λ c. sym (first-next _ _ (checked (search)) ∙ first-passed _ _ (narrow (search)) ∙ first-failed 8 _ (ne-eqb _ _ (c .if3 .taken))))
+    (λ c. sym (first-next _ _ (checked (search)) ∙ first-passed _ _ (narrow (search)) ∙ first-held _ _ (eq-eqb _ _ (c .if3 .left)) ∙ first-none)))

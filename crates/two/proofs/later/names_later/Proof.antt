@@ -21,18 +21,12 @@ abbrev μ-loop : tie.MeasureT-loop
 at : (c : tie.In-loop Inv-loop μ-loop) → Begins (c .before .before .before .before .args .columns) (c .before .before .before .before .args .table .now) (c .before .loop .row)
 at c = let start = c .before .before .before .before in begins (start .args .columns) (start .args .table .now) (c .before .loop .row) (start .pre .2) (start .pre .0) (omega arith)
 
-shared-slice-read-rows : tie.Need-shared-slice-read-rows Inv-loop μ-loop
-shared-slice-read-rows c = let start = c .before in omega (arith, check-facts (start .args .columns) (start .args .table .now) (start .pre .0) .head .long)
-
 loop-holds : tie.Need-loop-holds Inv-loop μ-loop
 loop-holds c =
     let start = c .before .before in
     let t = start .args .table .now in
     let k = check-facts (start .args .columns) t (start .pre .0) in
     (search needs, k, later-all (start .args .columns) (start .args .clock) t k)
-
-add-if1 : tie.Need-add-if1 Inv-loop μ-loop
-add-if1 c = let r = at c in omega (arith, r .room, r .few, c .before .before .before .before .pre .1, c .before .before .before .before .pre .2)
 
 returns : tie.Need-returns Inv-loop μ-loop
 returns c =
@@ -56,8 +50,11 @@ pub names-later-spec : {M : Type 1} → statement M
 names-later-spec =
     tie.close
     (tie.spec
-    Inv-loop μ-loop (λ c. let h = c .pre .2 in omega arith) (λ c. let h = c .pre .2 in omega arith) shared-slice-read-rows
+    Inv-loop μ-loop (λ c. let h = c .pre .2 in omega arith) (λ c. let h = c .pre .2 in omega arith)
+    (λ c. let start = c .before in omega (arith, check-facts (start .args .columns) (start .args .table .now) (start .pre .0) .head .long))
     (λ c. omega (arith, c .shared-slice-known .given 2)) (λ c. search needs) (λ c. search needs) loop-holds (λ c. search needs)
-    (λ c. let r = at c in omega (arith, r .room, r .few)) add-if1 (λ c. let r = at c in omega (arith, r .room, r .few))
+    (λ c. let r = at c in omega (arith, r .room, r .few))
+    (λ c. let r = at c in omega (arith, r .room, r .few, c .before .before .before .before .pre .1, c .before .before .before .before .pre .2))
+    (λ c. let r = at c in omega (arith, r .room, r .few))
     (λ c. let r = at (c .before) in omega (arith, r .room, c .before .before .before .before .before .pre .1)) returns (λ c. search needs)
     (λ c. search needs) loop-again returns-2)

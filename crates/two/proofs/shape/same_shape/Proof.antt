@@ -20,9 +20,6 @@ Inv-loop source target columns rows row₀ row = (row ≤ rows) × Checked colum
 abbrev μ-loop : tie.MeasureT-loop
 μ-loop source target columns rows row₀ row = rows - row
 
-shared-slice-read-rows : tie.Need-shared-slice-read-rows Inv-loop μ-loop
-shared-slice-read-rows c = let start = c .before .before .before in omega (arith, check-facts (start .args .columns) (start .args .source .now) (start .pre .0) .head .long)
-
 returns : tie.Need-returns Inv-loop μ-loop
 returns c =
     let start = c .before .before .before .before in
@@ -75,5 +72,7 @@ pub same-shape-spec : {M : Type 1} → statement M
 same-shape-spec =
     tie.close
     (tie.spec
-    Inv-loop μ-loop shared-slice-read-rows (λ c. omega (arith, c .shared-slice-known3 .given 2)) returns loop-holds plan-number-requires
-    plan-number-requires-2 returns-2 (λ c. search needs) (λ c. search needs) loop-again returns-3)
+    Inv-loop μ-loop
+    (λ c. let start = c .before .before .before in omega (arith, check-facts (start .args .columns) (start .args .source .now) (start .pre .0) .head .long))
+    (λ c. omega (arith, c .shared-slice-known3 .given 2)) returns loop-holds plan-number-requires plan-number-requires-2 returns-2 (λ c. search needs)
+    (λ c. search needs) loop-again returns-3)

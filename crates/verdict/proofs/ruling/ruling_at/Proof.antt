@@ -57,7 +57,7 @@ ruling-at-spec =
     (λ c. let r = inTarget (search) in omega (arith, r .room, r .few)) (λ c. let r = inTarget (search) in omega (arith, r .room, r .few))
     (λ c. let r = inTarget (search) in omega (arith, r .room, r .few)) (λ c. omega (arith, inTarget (search) .room)) returns
     (λ c κs. let s : tie.Start = search in ((two s .source, s .pre .1), two s .inSource))
-    (λ c κs. let s : tie.Start = search in ((two s .target, s .pre .1), two s .inTarget)) (λ c. let r = inTarget (search) in omega (arith, r .room, r .few))
-    (λ c. search needs) (λ c. search needs) (λ c. omega (arith, inSource (search) .room))
+    (λ c κs. let s : tie.Start = search in ((two s .target, s .pre .1), two s .inTarget))
     (λ c. let r = inTarget (search) in omega (arith, r .room, r .few)) (λ c. search needs) (λ c. search needs)
-    (λ c. omega (arith, inTarget (search) .room)) (λ c κs. search needs) returns-2)
+    (λ c. omega (arith, inSource (search) .room)) (λ c. let r = inTarget (search) in omega (arith, r .room, r .few)) (λ c. search needs)
+    (λ c. search needs) (λ c. omega (arith, inTarget (search) .room)) (λ c κs. search needs) returns-2)

@@ -14,7 +14,8 @@ use Rattle.paper.specs.Words.{tableOf, written}
 use Rattle.paper.specs.Refusals.{first, when, tens}
 use Rattle.paper.specs.Check.{checkOf}
 use Rattle.paper.specs.Good.{GoodTable}
-use Rattle.paper.specs.Calls.{Changed, Passed, newRefused, newOf, eventNamed, eventRefused, eventDone, eventOf, unlike, twoRefused, pairAt, passRefused, passDone, passOf, choiceNamed, settleRefused, settleDone, settleOf}
+use Rattle.paper.specs.Calls.{Changed, Passed, newRefused, newOf, eventNamed, eventRefused, eventDone, eventOf}
+use Rattle.paper.specs.Calls.{unlike, twoRefused, pairAt, passRefused, passDone, passOf, choiceNamed, settleRefused, settleDone, settleOf}
 use Rattle.laws.proofs.Refusals.{first-both, when-none, none-so, tens-none, unless-none, unless-some, unless-at, unless-number}
 use Rattle.laws.proofs.Tables.{check-facts, checked-good, checked-written}
 

@@ -104,7 +104,9 @@ module _ (w : ℕ) (s t : List ℕ) (row : ℕ) (list : List ℕ) (e : passRefus
   each = sym size-right ∙ sym (pass-accepted w s t row list e .1)
 
   pub single-both : Single both
-  single-both = single-subtree (zip (a .tree) (b .tree)) row (omega (arith, target-at .there, ap size (zip-right (a .tree) (b .tree) shapes), mapped-size (λ x. x .b) (λ y. y .b) (zip (a .tree) (b .tree))))
+  single-both =
+      single-subtree (zip (a .tree) (b .tree)) row
+      (omega (arith, target-at .there, ap size (zip-right (a .tree) (b .tree) shapes), mapped-size (λ x. x .b) (λ y. y .b) (zip (a .tree) (b .tree))))
 
   pub pass-room : Room n s t row (length list)
   pass-room =

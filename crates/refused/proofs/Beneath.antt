@@ -75,7 +75,8 @@ module _ (w : ℕ) (t : List ℕ) (row : ℕ) where
         some = omega (arith, s, size-some (tableOf w t .tree) row h);
         small = omega (arith, s, f, n, c .head .few);
         room =
-            let z : (row + size (subtree (tableOf w t .tree) row)) * wide w ≡ row * wide w + getD t ((row + 1) * wide w + 1) 0 * wide w = add-mul row (size (subtree (tableOf w t .tree) row)) (wide w) ∙ ap (λ x. row * wide w + x * wide w) s in
+            let z : (row + size (subtree (tableOf w t .tree) row)) * wide w ≡ row * wide w + getD t ((row + 1) * wide w + 1) 0 * wide w =
+            add-mul row (size (subtree (tableOf w t .tree) row)) (wide w) ∙ ap (λ x. row * wide w + x * wide w) s in
             let y : size (tableOf w t .tree) * wide w ≡ getD t 2 0 * wide w = ap (λ x. x * wide w) n in
             omega (arith, add-mul row 1 (wide w), m, z, y, c .head .long);
       }

@@ -16,9 +16,10 @@ make-pass-requires : tie.Need-make-pass-requires
 make-pass-requires c κs =
     let s : tie.Start = search in
     let k : tie.After-columns-of = search in
-    let e = k .columns-of .ensures in
-    (ap (λ v. passRefused v (s .args .source .now) (s .args .target .now) (s .args .row) (s .args .answers .now)) e ∙ widths-none _ _ _ (none (search)) .1,
-    read-width _ (s .args .target .now) e)
+    let e = k .columns-of .ensures in (
+      ap (λ v. passRefused v (s .args .source .now) (s .args .target .now) (s .args .row) (s .args .answers .now)) e ∙ widths-none _ _ _ (none (search)) .1,
+      read-width _ (s .args .target .now) e,
+    )
 
 returns-2 : tie.Need-returns-2
 returns-2 c =

@@ -9,6 +9,7 @@ use Rattle.paper.specs.Tree.{size, subtree}
 use Rattle.paper.specs.Words.{wide}
 use Rattle.paper.specs.Calls.{passRefused}
 use Rattle.paper.specs.Widths.{widthOf, tableAny, twoRefusedAny}
+use Rattle.paper.specs.Devices.{devices}
 use Rattle.laws.proofs.Refusals.{first-here, first-next, first-none, first-held, first-failed}
 use Rattle.laws.proofs.Widths.{widths-first, widths-none, two-at, read-few}
 use Rattle.order.proofs.RowPlaces.{Begins}
@@ -33,7 +34,7 @@ sized c =
     let p = paired _ _ _ _ (widths-none _ _ _ (none (search)) .1) in
     size-word (widthOf (s .args .target .now)) _ (p .target) _ (p .inTarget) ∙ ap (λ v. getD (s .args .target .now) ((s .args .row + 1) * wide v + 1) 0) (sym (c .columns-of .ensures))
 
-few : (c : tie.After-columns-of) → c .columns-of .result ≤ 16
+few : (c : tie.After-columns-of) → c .columns-of .result ≤ devices
 few c = let s : tie.Start = search in read-few _ (s .args .target .now) (c .columns-of .ensures)
 
 pub pass-refused-spec : {M : Type 1} → statement M

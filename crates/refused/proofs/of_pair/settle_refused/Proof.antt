@@ -38,7 +38,8 @@ conflict c = ap conflicts (said (search)) ∙ sym (c .before .is-conflict .ensur
 -- then only a stamp that can't be made refuses
 last : (c : tie.Else4)
     → let s : tie.Start = search in
-    settleRefusedAny (s .args .source .now) (s .args .target .now) (s .args .row) (s .args .choice) ≡ when (stamps (choiceNamed (s .args .choice)) && eqb (getD (s .args .target .now) 1 0) lastCount) 15
+    settleRefusedAny (s .args .source .now) (s .args .target .now) (s .args .row) (s .args .choice)
+    ≡ when (stamps (choiceNamed (s .args .choice)) && eqb (getD (s .args .target .now) 1 0) lastCount) 15
 unfolding settleRefused tableOf
 last c =
     widths-first _ _ _ _ ∙ first-next _ _ (none (search)) ∙ first-held _ _ (named (search)) ∙ first-passed _ _ (sheet (search)) ∙ first-held _ _ (conflict c)

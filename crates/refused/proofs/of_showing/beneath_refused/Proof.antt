@@ -11,6 +11,7 @@ use Rattle.paper.specs.Words.{wide}
 use Rattle.paper.specs.Check.{checkOf}
 use Rattle.paper.specs.Calls.{isFolder, beneathRefused}
 use Rattle.paper.specs.Widths.{widthOf, checkAny, tableAny}
+use Rattle.paper.specs.Devices.{devices}
 use Rattle.laws.proofs.Refusals.{first-here, first-next, first-none, first-passed, first-met}
 use Rattle.laws.proofs.Tables.{check-facts}
 use Rattle.laws.proofs.Widths.{read-few}
@@ -28,7 +29,7 @@ there : (c : tie.Else2) → let s : tie.Start = search in s .args .row < getD (s
 there c = omega (arith, c .if2 .left)
 
 -- where it stands at the width that was read, and whether it is a folder
-few : (c : tie.After-columns-of) → c .columns-of .result ≤ 16
+few : (c : tie.After-columns-of) → c .columns-of .result ≤ devices
 few c = let s : tie.Start = search in read-few _ (s .args .table .now) (c .columns-of .ensures)
 
 at : (c : tie.After-columns-of) → let s : tie.Start = search in Begins (c .columns-of .result) (s .args .table .now) (s .args .row)

@@ -14,6 +14,7 @@ use Rattle.paper.specs.Check.{checkOf}
 use Rattle.paper.specs.Refusals.{when}
 use Rattle.paper.specs.Calls.{oneToThree, eventNamed, fitsSheet, lastCount, eventRefused}
 use Rattle.paper.specs.Widths.{widthOf, checkAny, tableAny}
+use Rattle.paper.specs.Devices.{devices}
 use Rattle.laws.proofs.Refusals.{first-here, first-next, first-one, first-passed, first-met, first-held, first-failed, when-true, when-false}
 use Rattle.laws.proofs.Tables.{check-facts}
 use Rattle.laws.proofs.Widths.{read-few}
@@ -34,7 +35,7 @@ there : (c : tie.Else3) → let s : tie.Start = search in s .args .row < getD (s
 there c = omega (arith, c .if3 .left)
 
 -- where it stands at the width that was read, and whether the event fits it
-few : (c : tie.After-columns-of) → c .columns-of .result ≤ 16
+few : (c : tie.After-columns-of) → c .columns-of .result ≤ devices
 few c = let s : tie.Start = search in read-few _ (s .args .table .now) (c .columns-of .ensures)
 
 at : (c : tie.After-columns-of) → let s : tie.Start = search in Begins (c .columns-of .result) (s .args .table .now) (s .args .row)

@@ -38,4 +38,5 @@ new-refused-spec =
     (λ c. let s : tie.Start = search in omega (arith, s .pre)) (λ c. let s : tie.Start = search in omega (arith, s .pre))
     (λ c. let s : tie.Start = search in omega (arith, small c, s .pre)) (λ c. let s : tie.Start = search in omega (arith, small c, s .pre))
     (λ c. let k : tie.Else2 = search in sym (first-passed _ _ (device (search)) ∙ first-held _ _ (plan (search) ∙ not-false _ (k .if2 .left)) ∙ first-failed 8 _ (ne-eqb _ _ (c .if3 .taken))))
-    (λ c. let k : tie.Else2 = search in sym (first-passed _ _ (device (search)) ∙ first-held _ _ (plan (search) ∙ not-false _ (k .if2 .left)) ∙ first-held _ _ (eq-eqb _ _ (c .if3 .left)) ∙ first-none)))
+    (λ c. let k : tie.Else2 = search in sym (first-passed _ _ (device (search)) ∙ first-held _ _ (plan (search) ∙ not-false _ (k .if2 .left))
+    ∙ first-held _ _ (eq-eqb _ _ (c .if3 .left)) ∙ first-none)))

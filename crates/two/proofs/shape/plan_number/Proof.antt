@@ -12,6 +12,6 @@ plan-number-spec =
     (tie.spec
     (λ c. search needs) (λ c. let h = c .pre .1 in omega arith) (λ c. let h = c .pre .1 in omega arith) (λ c. omega (arith, c .pre .0))
     (λ c. search needs) (λ c. search needs) (λ c. search needs)
-    (λ c. sym (sheet-at (c .before .before .args .columns) (c .before .before .args .t .now) (c .before .before .args .row) (c .if1 .taken)))
+    (λ c. let s : tie.Start = search in sym (sheet-at (s .args .columns) (s .args .t .now) (s .args .row) (c .if1 .taken)))
     (λ c. search needs) (λ c. search needs) (λ c. search needs)
-    (λ c. sym (folder-at (c .before .before .before .args .columns) (c .before .before .before .args .t .now) (c .before .before .before .args .row) (c .before .if1 .left))))
+    (λ c. let s : tie.Start = search in sym (folder-at (s .args .columns) (s .args .t .now) (s .args .row) (c .before .if1 .left))))

@@ -4,7 +4,7 @@ use crate::line::character;
 use crate::line::one_of;
 use crate::step::CHANGE;
 use crate::step::CREATE;
-use kettleflock::Answer;
+use paper::Answer;
 use vector::row::Narrow;
 use vector::row::Row;
 use vector::row::Wide;

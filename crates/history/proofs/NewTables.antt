@@ -19,7 +19,7 @@ use Rattle.paper.specs.Order.{kindWord, sizeWord, ordered, Raw, forestOf, words
 use Rattle.paper.specs.Words.{wide, kindNumber, treeFrom, Table, tableOf, sheetWords, folderWords, folderRow, rowsOf, headWords, sign}
 use Rattle.paper.specs.Check.{blank, laid, known, absent, headFits, orderFits, rowsFit, checkOf}
 use Rattle.paper.specs.Good.{Good}
-use Rattle.paper.specs.Calls.{Changed, planned, newRefused, newOf, isFolder}
+use Rattle.paper.specs.Calls.{Changed, planned, planFits, newRefused, newOf, isFolder}
 use Rattle.laws.proofs.Bools.{and-both, both-and}
 use Rattle.laws.proofs.BlankWords.{length-zeros, zeros-blank, blank-zeros}
 use Rattle.laws.proofs.Columns.{length-columns}
@@ -302,7 +302,7 @@ new-done w d plan table r = ap (λ (o : Changed). o .table) (unless-none (newRef
 
 -- the number 0 says so
 pub new-accepted : (w d : ℕ) (plan table : List ℕ) → newOf w d plan table .number ≡ 0 → New-accepted w d plan table
-unfolding newRefused
+unfolding newRefused planFits
 new-accepted w d plan table e = record {
   device = dw;
   planned = raw-plan w d plan dw (s .0) (s .1) (s .2);

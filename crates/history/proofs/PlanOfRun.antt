@@ -15,7 +15,7 @@ use Rattle.paper.specs.Check.{checkOf}
 use Rattle.paper.specs.Widths.{widthOf, tableAny, twoWidths, passAny}
 use Rattle.laws.proofs.Widths.{pass-through, pass-stopped}
 use Rattle.paper.specs.Refusals.{first, when, tens}
-use Rattle.paper.specs.Calls.{isFolder, twoRefused, passRefused, Passed}
+use Rattle.paper.specs.Calls.{isFolder, unlike, twoRefused, passRefused, Passed}
 use Rattle.laws.proofs.Calls.{pass-number}
 use Rattle.laws.proofs.Refusals.{first-next, when-false, unless-so}
 use Rattle.laws.proofs.Forests.{shape, shape-size, shape-shaped}
@@ -70,9 +70,9 @@ module _ (columns : ℕ → ℕ) (plan : List ℕ) (lent : ℕ → List ℕ) (ma
 
     -- and where they don't, nothing but a row that is not there
     pub kept-two : widthOf (s .tables a) ≡ widthOf (s .tables b) → twoRefused (widthOf (s .tables b)) (s .tables a) (s .tables b) row ≡ when (leb (length plan) row) 8
-    unfolding twoRefused
+    unfolding twoRefused unlike
     kept-two one =
-        first-next _ _ (ap (λ v. checkOf v (s .tables a)) (sym one) ∙ k .sound a la) ∙ first-next _ _ (ap tens (k .sound b lb) ∙ unfold tens in refl)
+        first-next _ _ (ap (λ v. checkOf v (s .tables a)) (sym one) ∙ k .sound a la) ∙ first-next _ _ (ap tens (k .sound b lb) ∙ unfold tens in refl) ∙ first-one _
         ∙ subst (λ v. first (when (not (shaped (tableOf v (s .tables a) .tree) (tableAny (s .tables b) .tree))) 4
         ∷ when (eqb (tableOf v (s .tables a) .clock .device) (tableAny (s .tables b) .clock .device)) 5
         ∷ when (later (tableAny (s .tables b) .clock) (tableOf v (s .tables a) .tree)) 6

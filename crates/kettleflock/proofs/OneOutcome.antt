@@ -14,7 +14,7 @@ use contract.Monad.{Fun, fact, factI, fact-use, conj, conjL, conjR}
 use denote.Triple.Entry.{Args, Res}
 use denote.Triple.Clauses.{Ended, Clauses, Lasts, AtExit, atExit}
 use Rattle.paper.specs.Calls.{Answered, Changed, Passed}
-use Rattle.kettleflock.specs.declared.Answer.{Answer}
+use Rattle.paper.specs.declared.Answer.{Answer}
 use Rattle.kettleflock.proofs.check as check
 use Rattle.kettleflock.proofs.new as new
 use Rattle.kettleflock.proofs.widen as widen

@@ -1,9 +1,9 @@
 -- Laws of the calls: the number returned is the refusal's; a refused call leaves its buffers as they were; what two
 -- tables that are accepted are like.
-use Prim.Native.Nat.{ℕ, suc, _<_}
+use Prim.Native.Nat.{ℕ, suc, _≤_, _<_}
 use mathlib.Core.Path.{_≡_, _∙_}
-use mathlib.Core.List.{List}
-use mathlib.Core.Bool.{true, false, cond}
+use mathlib.Core.List.{List, [], _∷_}
+use mathlib.Core.Bool.{Bool, true, false, cond}
 use native.Mathlib.Omega.{arith}
 use borrow.Author.Tests.{eqb-true, eqb-false, leb-false}
 use lib.ListN.{length}
@@ -11,10 +11,11 @@ use Rattle.paper.specs.Tree.{size, subtree, shaped, above, later}
 use Rattle.paper.specs.Walk.{answers, looked}
 use Rattle.paper.specs.Acts.{stamps}
 use Rattle.paper.specs.Words.{tableOf, written}
-use Rattle.paper.specs.Refusals.{tens}
+use Rattle.paper.specs.Refusals.{first, when, tens}
 use Rattle.paper.specs.Check.{checkOf}
 use Rattle.paper.specs.Good.{GoodTable}
-use Rattle.paper.specs.Calls.{Changed, Passed, newRefused, newOf, eventNamed, eventRefused, eventDone, eventOf, twoRefused, pairAt, passRefused, passDone, passOf, choiceNamed, settleRefused, settleDone, settleOf}
+use Rattle.paper.specs.Calls.{Changed, Passed, newRefused, newOf, eventNamed, eventRefused, eventDone, eventOf}
+use Rattle.paper.specs.Calls.{unlike, twoRefused, pairAt, passRefused, passDone, passOf, choiceNamed, settleRefused, settleDone, settleOf}
 use Rattle.laws.proofs.Refusals.{first-both, when-none, none-so, tens-none, unless-none, unless-some, unless-at, unless-number}
 use Rattle.laws.proofs.Tables.{check-facts, checked-good, checked-written}
 
@@ -89,6 +90,18 @@ pub settle-done : (w : ℕ) (s t : List ℕ) (row choice mark : ℕ) → settleR
 unfolding settleOf
 settle-done w s t row choice mark e = unless-none (settleRefused w s t row choice) _ _ e
 
+-- a check gives at most 3
+three-small : (a b c : Bool) → first (when a 1 ∷ when b 2 ∷ when c 3 ∷ []) ≤ 3
+unfolding first when
+three-small true b c = omega arith
+three-small false true c = omega arith
+three-small false false true = omega arith
+three-small false false false = omega arith
+
+pub check-small : (w : ℕ) (t : List ℕ) → checkOf w t ≤ 3
+unfolding checkOf
+check-small w t = three-small _ _ _
+
 -- TWO TABLES that are accepted: both good and written as they stand, of one shape, of two devices, neither naming a later
 -- count of the other's device than its counter; and the row is there
 pub record Accepted (w : ℕ) (s t : List ℕ) (row : ℕ) : Type 0 where
@@ -103,11 +116,11 @@ pub record Accepted (w : ℕ) (s t : List ℕ) (row : ℕ) : Type 0 where
   pub there : row < size (tableOf w t .tree)
 
 pub two-accepted : (w : ℕ) (s t : List ℕ) (row : ℕ) → twoRefused w s t row ≡ 0 → Accepted w s t row
-unfolding twoRefused
+unfolding twoRefused unlike
 two-accepted w s t row e =
     let one = first-both (checkOf w s) _ e in
     let two = first-both (tens (checkOf w t)) _ (one .1) in
-    let four = first-both _ _ (two .1) in
+    let four = first-both _ _ (first-both (unlike (tableOf w s) (tableOf w t) row) [] (two .1) .0) in
     let five = first-both _ _ (four .1) in
     let six = first-both _ _ (five .1) in
     let seven = first-both _ _ (six .1) in

@@ -1,6 +1,6 @@
 -- Laws of refusals: which number is the first, and what follows where there is none.
-use Prim.Native.Nat.{ℕ, zero, suc}
-use mathlib.Core.Path.{_≡_, refl, _∙_}
+use Prim.Native.Nat.{ℕ, zero, suc, _+_}
+use mathlib.Core.Path.{_≡_, refl, ap, _∙_}
 use mathlib.Core.List.{List, [], _∷_, _++_}
 use mathlib.Core.Bool.{Bool, true, false, not, false≢true, true≢false}
 use native.Mathlib.Omega.{arith}
@@ -29,6 +29,12 @@ unfolding first
 first-here zero r e = absurd (e refl)
 first-here (suc n) r e = refl
 
+-- one number alone
+pub first-one : (n : ℕ) → first (n ∷ []) ≡ n
+unfolding first
+first-one zero = refl
+first-one (suc n) = refl
+
 -- a refusal that is given where a test holds, or where it does not
 pub when-true : (b : Bool) (n : ℕ) → b ≡ true → when b n ≡ n
 unfolding when
@@ -55,10 +61,34 @@ unfolding when
 none-so true n e = refl
 none-so false n e = absurd (omega arith)
 
+-- A CHAIN OF TESTS, from the front: a test that is not met is passed over, the first that is met refuses
+pub first-passed : (n : ℕ) (r : List ℕ) {b : Bool} → b ≡ false → first (when b n ∷ r) ≡ first r
+first-passed n r {b} e = first-next _ r (when-false b n e)
+
+pub first-met : (n : ℕ) (r : List ℕ) {b : Bool} → b ≡ true → first (when b (suc n) ∷ r) ≡ suc n
+first-met n r {b} e = first-here _ r (λ z. omega (arith, z, when-true b (suc n) e)) ∙ when-true b (suc n) e
+
+-- so of a test that has to hold
+pub first-held : (n : ℕ) (r : List ℕ) {b : Bool} → b ≡ true → first (when (not b) n ∷ r) ≡ first r
+first-held n r {b} e = first-passed n r (ap not e)
+
+pub first-failed : (n : ℕ) (r : List ℕ) {b : Bool} → b ≡ false → first (when (not b) (suc n) ∷ r) ≡ suc n
+first-failed n r {b} e = first-met n r (ap not e)
+
 pub tens-none : (n : ℕ) → tens n ≡ 0 → n ≡ 0
 unfolding tens
 tens-none zero e = refl
 tens-none (suc n) e = absurd (omega arith)
+
+-- the target's check, in a chain
+pub tens-passed : (n : ℕ) (r : List ℕ) → n ≡ 0 → first (tens n ∷ r) ≡ first r
+unfolding tens
+tens-passed n r e = first-next _ r (ap tens e)
+
+pub tens-met : (n : ℕ) (r : List ℕ) → (n ≡ 0 → ⊥) → first (tens n ∷ r) ≡ n + 10
+unfolding tens
+tens-met zero r h = absurd (h refl)
+tens-met (suc n) r h = first-here (11 + n) r (λ z. omega (arith, z)) ∙ omega arith
 
 -- what comes of a call: the work where nothing refuses, else the refusal
 pub unless-none : {A : Type 0} (n : ℕ) (refused done : A) → n ≡ 0 → unless n refused done ≡ done
@@ -81,6 +111,19 @@ pub unless-number : (n : ℕ) → unless n n 0 ≡ n
 unfolding unless
 unless-number zero = refl
 unless-number (suc n) = refl
+
+-- a chain within a chain
+pub first-flat : (l r : List ℕ) → first (first l ∷ r) ≡ first (l ++ r)
+unfolding first
+first-flat [] r = refl
+first-flat (zero ∷ l) r = first-flat l r
+first-flat (suc n ∷ l) r = refl
+
+pub first-within : (a n : ℕ) (r : List ℕ) → first (a ∷ first (n ∷ r) ∷ []) ≡ first (first (a ∷ n ∷ []) ∷ r)
+unfolding first
+first-within zero zero r = first-one (first r)
+first-within zero (suc n) r = refl
+first-within (suc a) n r = refl
 
 -- a refusal is given where it applies and none before it in the order does
 pub first-order : (before rest : List ℕ) (n : ℕ) → blank before ≡ true → (n ≡ 0 → ⊥) → first (before ++ n ∷ rest) ≡ n

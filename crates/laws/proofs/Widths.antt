@@ -3,26 +3,28 @@
 use Prim.Native.Nat.{ℕ, zero, suc, _+_, _*_, _≤_}
 use mathlib.Core.Path.{_≡_, refl, sym, ap, ap₂, _∙_, subst}
 use mathlib.Core.Bool.{Bool, true, false, not, _||_, cond}
-use mathlib.Core.List.{List}
+use mathlib.Core.List.{List, [], _∷_}
 use mathlib.Core.Logic.{inl, inr}
 use Prim.{tt}
 use native.Mathlib.Omega.{arith}
 use lib.Dec.{ltb, eqb}
 use borrow.Author.Tests.{eqb-true, eqb-false, ne-eqb, ltb-true, lt-ltb}
 use lib.ListN.{length, getD}
+use mathlib.Core.Option.{Option}
+use Rattle.paper.specs.declared.Ruling.{Ruling}
 use Rattle.paper.specs.declared.Stamp.{Stamp}
 use Rattle.paper.specs.declared.Clock.{Clock}
 use Rattle.paper.specs.Columns.{Vec, zeros, greatest}
 use Rattle.paper.specs.Rules.{Kind, never, live, removed, Row}
 use Rattle.paper.specs.Tree.{end, sheet, folder, size, Tree}
 use Rattle.paper.specs.Words.{wide, Table, tableOf, sign, written}
-use Rattle.paper.specs.Refusals.{when, tens, unless}
+use Rattle.paper.specs.Refusals.{first, when, tens, unless}
 use Rattle.paper.specs.Check.{proper, laid, checkOf}
 use Rattle.paper.specs.Good.{GoodFloor, Good, GoodTable}
-use Rattle.paper.specs.Calls.{Changed, Passed, newOf, passOf, settleOf}
-use Rattle.paper.specs.Widths.{Width, widthOf, tableAny, checkAny, eightOrSixteen, newAny, widenRefused, widenOf, twoWidths, passAny, settleAny}
+use Rattle.paper.specs.Calls.{Changed, Passed, newOf, twoRefused, passOf, rulingHere, settleOf}
+use Rattle.paper.specs.Widths.{narrowColumns, wideColumns, Width, widthOf, tableAny, checkAny, eightOrSixteen, newAny, widenRefused, widenOf, twoWidths, widthsThen, twoRefusedAny, passAny, settleAny}
 use Rattle.laws.proofs.Bools.{and-both, both-and}
-use Rattle.laws.proofs.Refusals.{first-both, none-so, when-none, tens-none, unless-none, unless-some, unless-at, unless-number}
+use Rattle.laws.proofs.Refusals.{first-both, first-next, first-one, first-flat, first-within, none-so, when-none, tens-none, unless-none, unless-some, unless-at, unless-number}
 use Rattle.laws.proofs.Tables.{sign-at, table-read, written-passes, check-facts, checked-good, checked-size}
 
 -- MORE COLUMNS
@@ -55,44 +57,51 @@ module _ (v w : ℕ) (more : v ≤ w) where
 -- THE WIDTH
 pub width-either : (t : List ℕ) → Width (widthOf t)
 unfolding widthOf
-width-either t = go (eqb (getD t 3 0) 16)
+width-either t = go (eqb (getD t 3 0) wideColumns)
   where
-    go : (b : Bool) → Width (cond b 16 8)
+    go : (b : Bool) → Width (cond b wideColumns narrowColumns)
     go true = inr refl
     go false = inl refl
 
 -- by word 3
-pub wide-words : (t : List ℕ) → getD t 3 0 ≡ 16 → widthOf t ≡ 16
+pub wide-words : (t : List ℕ) → getD t 3 0 ≡ wideColumns → widthOf t ≡ wideColumns
 unfolding widthOf
 wide-words t e = rw e
 
-pub narrow-other : (t : List ℕ) → (getD t 3 0 ≡ 16 → ⊥) → widthOf t ≡ 8
+pub narrow-other : (t : List ℕ) → (getD t 3 0 ≡ wideColumns → ⊥) → widthOf t ≡ narrowColumns
 unfolding widthOf
-narrow-other t h = rw (ne-eqb (getD t 3 0) 16 h)
+narrow-other t h = rw (ne-eqb (getD t 3 0) wideColumns h)
 
-pub narrow-words : (t : List ℕ) → getD t 3 0 ≡ 0 → widthOf t ≡ 8
+pub narrow-words : (t : List ℕ) → getD t 3 0 ≡ 0 → widthOf t ≡ narrowColumns
 narrow-words t e = narrow-other t (λ f. omega (arith, e, f))
 
 -- not the one, so the other
-pub width-wide : (w : ℕ) → Width w → (w ≡ 8 → ⊥) → w ≡ 16
+pub width-wide : (w : ℕ) → Width w → (w ≡ narrowColumns → ⊥) → w ≡ wideColumns
 width-wide w (inl e) h = absurd (h e)
 width-wide w (inr e) h = e
 
-pub width-few : (w : ℕ) → Width w → w ≤ 16
+pub width-few : (w : ℕ) → Width w → w ≤ wideColumns
 width-few w (inl e) = omega (arith, e)
 width-few w (inr e) = omega (arith, e)
+
+-- a width that was read is one that there is
+pub read-width : (v : ℕ) (t : List ℕ) → v ≡ widthOf t → Width v
+read-width v t e = rw e (width-either t)
+
+pub read-few : (v : ℕ) (t : List ℕ) → v ≡ widthOf t → v ≤ wideColumns
+read-few v t e = width-few v (read-width v t e)
 
 -- a written table names its width
 pub width-written : (w : ℕ) → Width w → (t : Table) → widthOf (written w t) ≡ w
 unfolding widthOf
-width-written w (inl e) t = ap (λ n. cond (eqb n 16) 16 8) (sign-at w t ∙ ap sign e) ∙ sym e
-width-written w (inr e) t = ap (λ n. cond (eqb n 16) 16 8) (sign-at w t ∙ ap sign e) ∙ sym e
+width-written w (inl e) t = ap (λ n. cond (eqb n wideColumns) wideColumns narrowColumns) (sign-at w t ∙ ap sign e) ∙ sym e
+width-written w (inr e) t = ap (λ n. cond (eqb n wideColumns) wideColumns narrowColumns) (sign-at w t ∙ ap sign e) ∙ sym e
 
 -- so do words that pass the check at a width
 pub width-checked : (w : ℕ) → Width w → (t : List ℕ) → checkOf w t ≡ 0 → widthOf t ≡ w
 unfolding widthOf
-width-checked w (inl e) t c = ap (λ n. cond (eqb n 16) 16 8) (check-facts w t c .head .sign ∙ ap sign e) ∙ sym e
-width-checked w (inr e) t c = ap (λ n. cond (eqb n 16) 16 8) (check-facts w t c .head .sign ∙ ap sign e) ∙ sym e
+width-checked w (inl e) t c = ap (λ n. cond (eqb n wideColumns) wideColumns narrowColumns) (check-facts w t c .head .sign ∙ ap sign e) ∙ sym e
+width-checked w (inr e) t c = ap (λ n. cond (eqb n wideColumns) wideColumns narrowColumns) (check-facts w t c .head .sign ∙ ap sign e) ∙ sym e
 
 -- and it passes, and is read back, at it
 pub any-passes : (w : ℕ) → Width w → (t : Table) → GoodTable w t → checkAny (written w t) ≡ 0
@@ -107,11 +116,11 @@ any-good t e = checked-good (widthOf t) t (check-facts (widthOf t) t e)
 -- NEW
 named-width : (n : ℕ) → eightOrSixteen n ≡ true → Width n
 unfolding eightOrSixteen
-named-width n e = go (eqb n 8) refl e
+named-width n e = go (eqb n narrowColumns) refl e
   where
-    go : (b : Bool) → eqb n 8 ≡ b → (b || eqb n 16) ≡ true → Width n
-    go true p q = inl (eqb-true n 8 p)
-    go false p q = inr (eqb-true n 16 q)
+    go : (b : Bool) → eqb n narrowColumns ≡ b → (b || eqb n wideColumns) ≡ true → Width n
+    go true p q = inl (eqb-true n _ p)
+    go false p q = inr (eqb-true n _ q)
 
 pub record New-any (columns d : ℕ) (plan table : List ℕ) : Type 0 where
   pub width : Width columns
@@ -135,18 +144,18 @@ unfolding widenOf
 widen-number t wider = unless-at (λ (o : Changed). o .number) (widenRefused t wider) _ _ ∙ unless-number (widenRefused t wider)
 
 pub record Widened (t wider : List ℕ) : Type 0 where
-  pub narrow : widthOf t ≡ 8
-  pub check : checkOf 8 t ≡ 0
-  pub room : length wider ≡ getD t 2 0 * wide 16 + wide 16
-  pub good : GoodTable 8 (tableAny t)
-  pub done : widenOf t wider ≡ record { number = 0; count = size (tableAny t .tree); table = written 16 (tableAny t) }
+  pub narrow : widthOf t ≡ narrowColumns
+  pub check : checkOf narrowColumns t ≡ 0
+  pub room : length wider ≡ getD t 2 0 * wide wideColumns + wide wideColumns
+  pub good : GoodTable narrowColumns (tableAny t)
+  pub done : widenOf t wider ≡ record { number = 0; count = size (tableAny t .tree); table = written wideColumns (tableAny t) }
 
 pub widened : (t wider : List ℕ) → widenOf t wider .number ≡ 0 → Widened t wider
 unfolding widenOf widenRefused
 widened t wider e =
     let r : widenRefused t wider ≡ 0 = sym (widen-number t wider) ∙ e in
     let x = first-both (checkAny t) _ r in
-    let y = first-both (when (eqb (widthOf t) 16) 19) _ (x .1) in
+    let y = first-both (when (eqb (widthOf t) wideColumns) 19) _ (x .1) in
     let n = not-wide (widthOf t) (width-either t) (when-none _ 18 (y .0)) in
     record {
       narrow = n;
@@ -155,28 +164,28 @@ widened t wider e =
       good = subst (λ w. GoodTable w (tableAny t)) n (any-good t (x .0));
       done =
           unless-none (widenRefused t wider) _ _ r
-          ∙ ap₂ (λ c l. record { number = 0; count = c; table = l }) (sym (checked-size (widthOf t) t (check-facts (widthOf t) t (x .0)))) (ap (λ w. written 16 (tableOf w t)) (sym n));
+          ∙ ap₂ (λ c l. record { number = 0; count = c; table = l }) (sym (checked-size (widthOf t) t (check-facts (widthOf t) t (x .0)))) (ap (λ w. written wideColumns (tableOf w t)) (sym n));
     }
   where
-    not-wide : (w : ℕ) → Width w → eqb w 16 ≡ false → w ≡ 8
+    not-wide : (w : ℕ) → Width w → eqb w wideColumns ≡ false → w ≡ narrowColumns
     not-wide w (inl e) f = e
-    not-wide w (inr e) f = absurd (eqb-false w 16 f e)
+    not-wide w (inr e) f = absurd (eqb-false w _ f e)
 
 -- what is widened is sound, is the same table, and has sixteen columns
 pub record Wider (t wider : List ℕ) : Type 0 where
   pub check : checkAny (widenOf t wider .table) ≡ 0
   pub same : tableAny (widenOf t wider .table) ≡ tableAny t
-  pub width : widthOf (widenOf t wider .table) ≡ 16
+  pub width : widthOf (widenOf t wider .table) ≡ wideColumns
 
 pub widen-same : (t wider : List ℕ) → widenOf t wider .number ≡ 0 → Wider t wider
 widen-same t wider e =
     let x = widened t wider e in
-    let d : widenOf t wider .table ≡ written 16 (tableAny t) = ap (λ (o : Changed). o .table) (x .done) in
-    let g = good-wider 8 16 (omega arith) (tableAny t) (x .good) in
+    let d : widenOf t wider .table ≡ written wideColumns (tableAny t) = ap (λ (o : Changed). o .table) (x .done) in
+    let g = good-wider narrowColumns wideColumns (omega arith) (tableAny t) (x .good) in
     record {
-      check = ap checkAny d ∙ any-passes 16 (inr refl) (tableAny t) g;
-      same = ap tableAny d ∙ any-read 16 (inr refl) (tableAny t) g;
-      width = ap widthOf d ∙ width-written 16 (inr refl) (tableAny t);
+      check = ap checkAny d ∙ any-passes wideColumns (inr refl) (tableAny t) g;
+      same = ap tableAny d ∙ any-read wideColumns (inr refl) (tableAny t) g;
+      width = ap widthOf d ∙ width-written wideColumns (inr refl) (tableAny t);
     }
 
 -- TWO TABLES
@@ -192,6 +201,36 @@ two-any s t e =
     let y = first-both (tens (checkAny t)) _ (x .1) in
     let z = first-both (when (not (eqb (widthOf s) (widthOf t))) 19) _ (y .1) in
     record { source = x .0; target = tens-none _ (y .0); one = eqb-true _ _ (none-so _ 18 (z .0)) }
+
+-- what refuses two tables comes before what refuses a call on them
+pub widths-first : (s t : List ℕ) (n : ℕ) (r : List ℕ) → widthsThen s t (first (n ∷ r)) ≡ first (widthsThen s t n ∷ r)
+unfolding widthsThen
+widths-first s t n r = first-within (twoWidths s t) n r
+
+-- all that refuses two tables, in one chain
+pub widths-chain : (s t : List ℕ) (n : ℕ) → widthsThen s t n ≡ first (checkAny s ∷ tens (checkAny t) ∷ when (not (eqb (widthOf s) (widthOf t))) 19 ∷ n ∷ [])
+unfolding widthsThen twoWidths
+widths-chain s t n = first-flat (checkAny s ∷ tens (checkAny t) ∷ when (not (eqb (widthOf s) (widthOf t))) 19 ∷ []) (n ∷ [])
+
+-- nothing refuses: neither the tables and their widths, nor what comes then
+pub widths-none : (s t : List ℕ) (n : ℕ) → widthsThen s t n ≡ 0 → (twoWidths s t ≡ 0) × (n ≡ 0)
+unfolding widthsThen
+widths-none s t n e = let x = first-both (twoWidths s t) _ e in (x .0, first-both n [] (x .1) .0)
+
+pub widths-past : (s t : List ℕ) (n : ℕ) → twoWidths s t ≡ 0 → widthsThen s t n ≡ n
+unfolding widthsThen
+widths-past s t n e = first-next (twoWidths s t) _ e ∙ first-one n
+
+-- at the width that was read of the target
+pub two-at : (v : ℕ) (s t : List ℕ) (row : ℕ) → v ≡ widthOf t → twoRefusedAny s t row ≡ 0 → (twoRefused v s t row ≡ 0) × (v ≤ wideColumns)
+two-at v s t row e h = (ap (λ v. twoRefused v s t row) e ∙ widths-none s t _ h .1, read-few v t e)
+
+-- what the rules say at a row of two tables of one width
+abbrev pub rulingAny : List ℕ → List ℕ → ℕ → Option Ruling
+rulingAny s t row = rulingHere (tableOf (widthOf t) s) (tableAny t) row
+
+pub ruling-any : (v : ℕ) (s t : List ℕ) (row : ℕ) (o : Option Ruling) → v ≡ widthOf t → o ≡ rulingHere (tableOf v s) (tableOf v t) row → o ≡ rulingAny s t row
+ruling-any v s t row o e h = h ∙ ap (λ v. rulingHere (tableOf v s) (tableOf v t) row) e
 
 pub record Pass-any (s t : List ℕ) (row : ℕ) (list : List ℕ) : Type 0 where
   pub two : Two-any s t

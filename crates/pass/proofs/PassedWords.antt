@@ -13,7 +13,7 @@ use Rattle.paper.specs.Columns.{Vec}
 use Rattle.paper.specs.Tree.{Forest, end, sheet, folder, subtree, size, Tree, above}
 use Rattle.paper.specs.Walk.{Pair, zip, left, right, walk}
 use Rattle.paper.specs.Words.{wide, Table, tableOf, written, treeWords}
-use Rattle.paper.specs.Calls.{Passed, twoRefused, pairAt, passRefused, passDone, passOf}
+use Rattle.paper.specs.Calls.{passed, done, twoRefused, pairAt, passRefused, passDone, passOf}
 use Rattle.laws.proofs.Refusals.{first-both}
 use Rattle.laws.proofs.Forests.{shape, shaped-shape, zip-left, zip-right, mapped-size, mapped-subtree, subtree-fits}
 use Rattle.laws.proofs.GoodTrees.{walk-shape}
@@ -104,7 +104,9 @@ module _ (w : ℕ) (s t : List ℕ) (row : ℕ) (list : List ℕ) (e : passRefus
   each = sym size-right ∙ sym (pass-accepted w s t row list e .1)
 
   pub single-both : Single both
-  single-both = single-subtree (zip (a .tree) (b .tree)) row (omega (arith, target-at .there, ap size (zip-right (a .tree) (b .tree) shapes), mapped-size (λ x. x .b) (λ y. y .b) (zip (a .tree) (b .tree))))
+  single-both =
+      single-subtree (zip (a .tree) (b .tree)) row
+      (omega (arith, target-at .there, ap size (zip-right (a .tree) (b .tree) shapes), mapped-size (λ x. x .b) (λ y. y .b) (zip (a .tree) (b .tree))))
 
   pub pass-room : Room n s t row (length list)
   pass-room =
@@ -162,7 +164,7 @@ module _ (w : ℕ) (s t : List ℕ) (row : ℕ) (list : List ℕ) (e : passRefus
           (narrow-above w s row source-at) (rw both-left (fine-there w s row source-at)) (rw both-right (fine-there w t row target-at)))
           (length list * n) e′ (back .words) (ap (λ m. m * n) (walk-size w (a .clock) (b .clock) both (above (a .tree) row) (above (b .tree) row) ∙ each))
 
-      pub passed-all : (words : List ℕ) → words ≡ written w (passDone w a b row) → _≡_ {A = Passed} (record { number = 0; count = count; target = words; answers = list′ }) (passOf w s t row list)
+      pub passed-all : (words : List ℕ) → words ≡ written w (passDone w a b row) → passed (done count) words list′ ≡ passOf w s t row list
       passed-all words q =
           ap₂ (λ (k : ℕ) (z : List ℕ × List ℕ). record { number = 0; count = k; target = z .0; answers = z .1 }) (back .looked) (ap₂ (λ x y. let z : List ℕ × List ℕ = (x, y) in z) q (back .answers))
           ∙ sym (pass-done w s t row list e)

@@ -5,7 +5,7 @@ use table::head::clock_of;
 use vector::row::Row;
 use walk::pass_row;
 ghost use mathlib.Core.Path.{_≡_};
-ghost use Rattle.paper.specs.Calls.{Passed, passRefused, passOf};
+ghost use Rattle.paper.specs.Calls.{passed, done, passRefused, passOf};
 ghost use Rattle.paper.specs.Widths.{Width};
 
 // Passes the subtree of a row where nothing refuses; returns the number of rows looked at.
@@ -17,7 +17,8 @@ pub fn make_pass(
     columns: usize,
 ) -> u32
     requires { ⌜ (passRefused columns (now source) (now target) row (now answers) ≡ 0) × Width columns ⌝ }
-    ensures { λ r. ⌜ _≡_ {A = Passed} (record { number = 0; count = r; target = now (target .exit); answers = now (answers .exit) }) (passOf columns (now (source .entry)) (now (target .entry)) row (now (answers .entry))) ⌝ }
+    ensures { λ r. ⌜ passed (done r) (now (target .exit)) (now (answers .exit))
+        ≡ passOf columns (now (source .entry)) (now (target .entry)) row (now (answers .entry)) ⌝ }
 {
     let a = clock_of(source);
     let b = clock_of(target);

@@ -1,19 +1,18 @@
--- The rows beneath a folder: what refuses to show them, by the tests that were made, and where they stand in the table.
+-- The rows beneath a folder: where they stand in the table, and what is shown of them.
 use Prim.Native.Nat.{ℕ, zero, suc, _+_, _-_, _*_, _≤_, _<_}
 use mathlib.Core.Path.{_≡_, refl, sym, ap, ap₂, _∙_}
-use mathlib.Core.List.{List, [], _∷_}
-use mathlib.Core.Bool.{Bool, true, false, not, _||_, cond}
+use mathlib.Core.List.{List, []}
+use mathlib.Core.Bool.{Bool, true, false, _||_, cond}
 use native.Mathlib.Omega.{arith}
 use native.Mathlib.Nat.{add-mul, mul-le-mul-right}
-use lib.Dec.{eqb, leb, ltb}
+use lib.Dec.{eqb, ltb}
 use borrow.Author.Tests.{ltb-true, ltb-false, leb-false}
 use lib.ListN.{length, getD, take, drop, length-take}
 use Rattle.paper.specs.Tree.{Forest, end, sheet, folder, size, subtree, sheetHere}
 use Rattle.paper.specs.Words.{wide, tableOf}
-use Rattle.paper.specs.Refusals.{first, when}
 use Rattle.paper.specs.Check.{checkOf}
 use Rattle.paper.specs.Calls.{Answered, isFolder, beneathRefused, beneathPart, beneathOf}
-use Rattle.laws.proofs.Refusals.{first-both, first-here, when-none, unless-none, unless-some}
+use Rattle.laws.proofs.Refusals.{first-both, when-none, unless-none, unless-some}
 use Rattle.laws.proofs.Forests.{subtree-fits}
 use Rattle.laws.proofs.Tables.{check-facts, checked-size}
 use Rattle.two.proofs.Listed.{word-at}
@@ -21,23 +20,11 @@ use Rattle.verdict.proofs.SheetAt.{folder-row}
 use Rattle.two.proofs.Sizes.{size-word}
 use Rattle.paper.specs.Shown.{wordAt, beneathFrom}
 
--- THE REFUSAL: the check's first, then 8 by two answers
-module _ (w : ℕ) (t : List ℕ) (row : ℕ) where
-  pub beneath-check : (checkOf w t ≡ 0 → ⊥) → beneathRefused w t row ≡ checkOf w t
-  unfolding beneathRefused
-  beneath-check h = first-here (checkOf w t) _ h
-
-  pub beneath-by : checkOf w t ≡ 0 → (a b : Bool) → a ≡ leb (size (tableOf w t .tree)) row → b ≡ isFolder (sheetHere (subtree (tableOf w t .tree) row)) → first (when (a || not b) 8 ∷ []) ≡ beneathRefused w t row
-  unfolding beneathRefused first
-  beneath-by e a b p q = rw (e, sym p, sym q)
-
-module _ (w : ℕ) (t : List ℕ) (e : checkOf w t ≡ 0) where
-  -- is it a folder? Its kind word tells
-  module _ (row : ℕ) (h : row < getD t 2 0) where
-    pub folder-word : eqb (getD t ((row + 1) * wide w) 0) 3 ≡ isFolder (sheetHere (subtree (tableOf w t .tree) row))
-    folder-word =
-        let z : (row + 1) * wide w + 0 ≡ (row + 1) * wide w = omega arith in
-        sym (folder-row w t e row h ∙ ap (λ k. eqb k 3) (word-at w t row 0 (omega arith) ∙ ap (λ i. getD t i 0) z))
+-- is it a folder? Its kind word tells
+pub folder-word : (w : ℕ) (t : List ℕ) → checkOf w t ≡ 0 → (row : ℕ) → row < getD t 2 0 → eqb (getD t ((row + 1) * wide w) 0) 3 ≡ isFolder (sheetHere (subtree (tableOf w t .tree) row))
+folder-word w t e row h =
+    let z : (row + 1) * wide w + 0 ≡ (row + 1) * wide w = omega arith in
+    sym (folder-row w t e row h ∙ ap (λ k. eqb k 3) (word-at w t row 0 (omega arith) ∙ ap (λ i. getD t i 0) z))
 
 -- WHERE NOTHING REFUSES
 pub record FolderAt (w : ℕ) (t : List ℕ) (row : ℕ) : Type 0 where
@@ -88,7 +75,8 @@ module _ (w : ℕ) (t : List ℕ) (row : ℕ) where
         some = omega (arith, s, size-some (tableOf w t .tree) row h);
         small = omega (arith, s, f, n, c .head .few);
         room =
-            let z : (row + size (subtree (tableOf w t .tree) row)) * wide w ≡ row * wide w + getD t ((row + 1) * wide w + 1) 0 * wide w = add-mul row (size (subtree (tableOf w t .tree) row)) (wide w) ∙ ap (λ x. row * wide w + x * wide w) s in
+            let z : (row + size (subtree (tableOf w t .tree) row)) * wide w ≡ row * wide w + getD t ((row + 1) * wide w + 1) 0 * wide w =
+            add-mul row (size (subtree (tableOf w t .tree) row)) (wide w) ∙ ap (λ x. row * wide w + x * wide w) s in
             let y : size (tableOf w t .tree) * wide w ≡ getD t 2 0 * wide w = ap (λ x. x * wide w) n in
             omega (arith, add-mul row 1 (wide w), m, z, y, c .head .long);
       }

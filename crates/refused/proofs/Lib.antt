@@ -1,4 +1,4 @@
 pub mod Beneath
 pub mod NewTable
-pub mod EventAndPass
-pub mod Settling
+pub mod EventFits
+pub mod NamedNumbers

@@ -1,36 +1,22 @@
 -- The refusals of a new table, and what is there where none applies.
 use Prim.Native.Nat.{ℕ, _+_, _*_, _≤_}
 use mathlib.Core.Path.{_≡_, refl, sym, ap, _∙_}
-use mathlib.Core.Bool.{Bool, true, false, not, _&&_, _||_, cond}
-use mathlib.Core.List.{List, [], _∷_, _++_}
+use mathlib.Core.Bool.{Bool, true, false, _||_}
+use mathlib.Core.List.{List, _++_}
 use native.Mathlib.Omega.{arith}
 use lib.Dec.{eqb, leb, ltb}
 use borrow.Author.Tests.{eqb-true, leb-true}
 use lib.ListN.{length, getD}
 use Rattle.paper.specs.Words.{wide, headWords}
-use Rattle.paper.specs.Refusals.{first, when, unless}
-use Rattle.paper.specs.Check.{orderFits}
-use Rattle.paper.specs.Calls.{planned, newRefused, newOf, Changed}
-use Rattle.paper.specs.Widths.{widthOf, checkAny, eightOrSixteen, newAny, widenRefused, widenOf}
+use Rattle.paper.specs.Refusals.{when, unless}
+use Rattle.paper.specs.Calls.{planned, planFits, newRefused, newOf, Changed}
+use Rattle.paper.specs.Widths.{checkAny, eightOrSixteen, newAny, widenRefused, widenOf}
 use Rattle.laws.proofs.Bools.{and-both}
-use Rattle.laws.proofs.Refusals.{first-both, first-here, none-so, unless-none, unless-some}
+use Rattle.laws.proofs.Refusals.{first-both, none-so, unless-none, unless-some}
 
--- a plan that gives the rows of a table
-abbrev pub planGood : ℕ → List ℕ → Bool
-planGood w plan = ltb 0 (length plan) && (leb (length plan) 256 && orderFits w (length plan) (planned w plan))
-
-pub new-by : (w d : ℕ) (plan table : List ℕ) (a b c : Bool) → leb w d ≡ a → planGood w plan ≡ b → eqb (length table) (length plan * wide w + wide w) ≡ c
-    → newRefused w d plan table ≡ cond a 17 (cond b (cond c 0 9) 2)
-unfolding newRefused first when
-new-by w d plan table a b c p q r = rw (p, q, r) (go a b c)
-  where
-    go : (a b c : Bool) → first (when a 17 ∷ when (not b) 2 ∷ when (not c) 9 ∷ []) ≡ cond a 17 (cond b (cond c 0 9) 2)
-    go true b c = refl
-    go false false c = refl
-    go false true true = refl
-    go false true false = refl
-
-pub plan-few : (w : ℕ) (plan : List ℕ) → planGood w plan ≡ true → length plan ≤ 256
+-- of a plan that gives the rows of a table
+pub plan-few : (w : ℕ) (plan : List ℕ) → planFits w plan ≡ true → length plan ≤ 256
+unfolding planFits
 plan-few w plan e = leb-true _ _ (and-both (leb (length plan) 256) _ (and-both (ltb 0 (length plan)) _ e .1) .0)
 
 pub record NewFits (w : ℕ) (plan table : List ℕ) : Type 0 where
@@ -43,7 +29,7 @@ new-facts w d plan table e =
     let a = first-both _ _ e in
     let b = first-both _ _ (a .1) in
     let c = first-both _ _ (b .1) in
-    record { few = plan-few w plan (none-so (planGood w plan) 1 (b .0)); long = eqb-true _ _ (none-so (eqb (length table) (length plan * wide w + wide w)) 8 (c .0)) }
+    record { few = plan-few w plan (none-so (planFits w plan) 1 (b .0)); long = eqb-true _ _ (none-so (eqb (length table) (length plan * wide w + wide w)) 8 (c .0)) }
 
 pub new-done : (w d : ℕ) (plan table : List ℕ) → newRefused w d plan table ≡ 0
     → newOf w d plan table ≡ record { number = 0; count = length plan; table = headWords w (record { device = d; counter = 0 }) (length plan) ++ planned w plan }
@@ -70,19 +56,6 @@ width-small n e = go (eqb n 8) refl e
 
 -- A WIDENING
 module _ (t wider : List ℕ) where
-  pub widen-check : (checkAny t ≡ 0 → ⊥) → widenRefused t wider ≡ checkAny t
-  unfolding widenRefused
-  widen-check h = first-here (checkAny t) _ h
-
-  pub widen-by : checkAny t ≡ 0 → (a b : Bool) → eqb (widthOf t) 16 ≡ a → eqb (length wider) (getD t 2 0 * wide 16 + wide 16) ≡ b → widenRefused t wider ≡ cond a 19 (cond b 0 9)
-  unfolding widenRefused first when
-  widen-by e a b p q = rw (e, p, q) (go a b)
-    where
-      go : (a b : Bool) → first (0 ∷ when a 19 ∷ when (not b) 9 ∷ []) ≡ cond a 19 (cond b 0 9)
-      go true b = refl
-      go false true = refl
-      go false false = refl
-
   pub widen-checked : widenRefused t wider ≡ 0 → checkAny t ≡ 0
   unfolding widenRefused
   widen-checked e = first-both (checkAny t) _ e .0

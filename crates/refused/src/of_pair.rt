@@ -13,15 +13,14 @@ ghost use Prim.Native.Nat.{_≤_};
 ghost use Rattle.paper.specs.Acts.{stamps};
 ghost use Rattle.paper.specs.Words.{tableOf};
 ghost use Rattle.paper.specs.Check.{checkOf};
-ghost use Rattle.paper.specs.Calls.{twoRefused, passRefused, choiceNamed, settleRefused};
-ghost use Rattle.paper.specs.Widths.{widthOf};
+ghost use Rattle.paper.specs.Calls.{unlike, choiceNamed};
+ghost use Rattle.paper.specs.Widths.{twoRefusedAny, passRefusedAny, settleRefusedAny};
 ghost use Rattle.paper.specs.Devices.{devices};
-ghost use Rattle.two.specs.Unlike.{unlikeOf, widthsThen};
 
 // 4 to 8, for tables that pass the check.
 fn unlike(source: &[u32], target: &[u32], row: u32, columns: usize) -> u32
     requires { ⌜ (checkOf columns (now source) ≡ 0) × (checkOf columns (now target) ≡ 0) × (columns ≤ devices) ⌝ }
-    ensures { λ r. ⌜ r ≡ unlikeOf (tableOf columns (now (source .entry))) (tableOf columns (now (target .entry))) row ⌝ }
+    ensures { λ r. ⌜ r ≡ unlike (tableOf columns (now (source .entry))) (tableOf columns (now (target .entry))) row ⌝ }
 {
     if !same_shape(source, target, columns) {
         return 4;
@@ -45,7 +44,7 @@ fn unlike(source: &[u32], target: &[u32], row: u32, columns: usize) -> u32
 
 // 1 to 3 of the source, 11 to 13 of the target, 19 where their widths differ, then 4 to 8; 0 where nothing refuses.
 pub fn two_refused(source: &[u32], target: &[u32], row: u32) -> u32
-    ensures { λ r. ⌜ r ≡ widthsThen (now (source .entry)) (now (target .entry)) (twoRefused (widthOf (now (target .entry))) (now (source .entry)) (now (target .entry)) row) ⌝ }
+    ensures { λ r. ⌜ r ≡ twoRefusedAny (now (source .entry)) (now (target .entry)) row ⌝ }
 {
     let number = check(source);
     if number != 0 {
@@ -64,7 +63,7 @@ pub fn two_refused(source: &[u32], target: &[u32], row: u32) -> u32
 
 // The first refusal of a pass: those of two tables and a row, then 9.
 pub fn pass_refused(source: &[u32], target: &[u32], row: u32, answers: &[u32]) -> u32
-    ensures { λ r. ⌜ r ≡ widthsThen (now (source .entry)) (now (target .entry)) (passRefused (widthOf (now (target .entry))) (now (source .entry)) (now (target .entry)) row (now (answers .entry))) ⌝ }
+    ensures { λ r. ⌜ r ≡ passRefusedAny (now (source .entry)) (now (target .entry)) row (now (answers .entry)) ⌝ }
 {
     let number = two_refused(source, target, row);
     if number != 0 {
@@ -90,7 +89,7 @@ pub fn is_stamping(choice: u32) -> bool
 
 // As a pass up to 8, then 16, 10, 14, 15.
 pub fn settle_refused(source: &[u32], target: &[u32], row: u32, choice: u32) -> u32
-    ensures { λ r. ⌜ r ≡ widthsThen (now (source .entry)) (now (target .entry)) (settleRefused (widthOf (now (target .entry))) (now (source .entry)) (now (target .entry)) row choice) ⌝ }
+    ensures { λ r. ⌜ r ≡ settleRefusedAny (now (source .entry)) (now (target .entry)) row choice ⌝ }
 {
     let number = two_refused(source, target, row);
     if number != 0 {

@@ -6,9 +6,8 @@ use vector::head::Head;
 use vector::row::Row;
 use verdict::ruling::ruling_at;
 ghost use mathlib.Core.Path.{_≡_};
-ghost use Rattle.paper.specs.Calls.{beneathRefused, standingRefused};
-ghost use Rattle.paper.specs.Widths.{widthOf};
-ghost use Rattle.two.specs.Unlike.{widthsThen};
+ghost use Rattle.paper.specs.Calls.{beneathRefused};
+ghost use Rattle.paper.specs.Widths.{widthOf, standingRefusedAny};
 
 // The first refusal of a showing of the rows beneath a folder: 1, 2, 3, 8.
 pub fn beneath_refused(table: &[u32], row: u32) -> u32
@@ -31,7 +30,7 @@ pub fn beneath_refused(table: &[u32], row: u32) -> u32
 
 // As a pass up to 8, then 10.
 pub fn standing_refused(source: &[u32], target: &[u32], row: u32) -> u32
-    ensures { λ r. ⌜ r ≡ widthsThen (now (source .entry)) (now (target .entry)) (standingRefused (widthOf (now (target .entry))) (now (source .entry)) (now (target .entry)) row) ⌝ }
+    ensures { λ r. ⌜ r ≡ standingRefusedAny (now (source .entry)) (now (target .entry)) row ⌝ }
 {
     let number = two_refused(source, target, row);
     if number != 0 {

@@ -1,8 +1,10 @@
 // What refuses a new table, and one table alone: an event, a widening, a showing of the rows beneath a folder.
+use crate::is_one_to_three;
 use plan::plan_fits;
 use table::check::check;
 use table::head::columns_of;
 use vector::head::Head;
+use vector::row::Narrow;
 use vector::row::Row;
 use vector::row::Wide;
 ghost use mathlib.Core.Path.{_≡_};
@@ -19,10 +21,10 @@ ghost use Rattle.paper.specs.Devices.{devices};
 pub fn is_width(columns: u32) -> bool
     ensures { λ r. ⌜ r ≡ eightOrSixteen columns ⌝ }
 {
-    if columns == 8 {
+    if columns as usize == Narrow::COLUMNS {
         return true;
     }
-    columns == 16
+    columns as usize == Wide::COLUMNS
 }
 
 // The first refusal of a new table of so many columns: 17, 2, 9.
@@ -81,10 +83,7 @@ pub fn event_refused(table: &[u32], row: u32, event: u32) -> u32
     if number != 0 {
         return number;
     }
-    if event == 0 {
-        return 16;
-    }
-    if 3 < event {
+    if !is_one_to_three(event) {
         return 16;
     }
     if table[Head::ROWS] <= row {

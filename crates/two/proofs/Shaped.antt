@@ -85,7 +85,8 @@ shaped-plan n lv lw (folder r k s) (folder q l t) a b =
     ap₂ _&&_ (shaped-plan n (lv - 1) (lw - 1) k l (a .2) (b .2)) (shaped-plan n lv lw s t (a .3) (b .3))
     ∙ sym (ap₂ (λ x y. eqb x y && samePlan (listed k ++ listed s) (listed l ++ listed t)) (folder-number n (size k) r (a .1)) (folder-number n (size l) q (b .1)) ∙ go (eqb (size k) (size l)) refl)
   where
-    go : (x : Bool) → eqb (size k) (size l) ≡ x → (eqb (suc (size k)) (suc (size l)) && samePlan (listed k ++ listed s) (listed l ++ listed t)) ≡ (samePlan (listed k) (listed l) && samePlan (listed s) (listed t))
+    go : (x : Bool) → eqb (size k) (size l) ≡ x
+        → (eqb (suc (size k)) (suc (size l)) && samePlan (listed k ++ listed s) (listed l ++ listed t)) ≡ (samePlan (listed k) (listed l) && samePlan (listed s) (listed t))
     go true e =
         let h = eqb-true (size k) (size l) e in
         rw (eq-eqb (suc (size k)) (suc (size l)) (omega arith)) (same-append (listed k) (listed l) (listed s) (listed t) (length-listed k ∙ h ∙ sym (length-listed l)))
@@ -103,7 +104,8 @@ module _ (w : ℕ) (s t : List ℕ) where
   unfolding tableOf
   shaped-all a b =
       mapped-shaped (sheetOf w) (floorOf w) (forestOf (wide w) (drop (wide w) s)) (forestOf (wide w) (drop (wide w) t))
-      ∙ shaped-plan (wide w) 16 16 (forestOf (wide w) (drop (wide w) s)) (forestOf (wide w) (drop (wide w) t)) (ordered-formed (wide w) (omega arith) 16 (drop (wide w) s) (a .order)) (ordered-formed (wide w) (omega arith) 16 (drop (wide w) t) (b .order))
+      ∙ shaped-plan (wide w) 16 16 (forestOf (wide w) (drop (wide w) s)) (forestOf (wide w) (drop (wide w) t))
+      (ordered-formed (wide w) (omega arith) 16 (drop (wide w) s) (a .order)) (ordered-formed (wide w) (omega arith) 16 (drop (wide w) t) (b .order))
       ∙ ap₂ samePlan (rows-all w s a) (rows-all w t b)
 
   -- as many rows in one as in the other

@@ -26,7 +26,8 @@ size-listed n lv (sheet r s) g (suc i) h = size-listed n lv s (g .2) i (omega ar
 size-listed n lv (folder r k s) g zero h = omega (arith, g .1 .rows)
 size-listed n lv (folder r k s) g (suc i) h = go (ltb i (size k)) refl (size-listed n (lv - 1) k (g .2) i) (size-listed n lv s (g .3) (i - size k))
   where
-    go : (t : Bool) → ltb i (size k) ≡ t → (i < size k → size (subtree k i) ≡ sizeWord (getD (listed k) i [])) → (i - size k < size s → size (subtree s (i - size k)) ≡ sizeWord (getD (listed s) (i - size k) []))
+    go : (t : Bool) → ltb i (size k) ≡ t → (i < size k → size (subtree k i) ≡ sizeWord (getD (listed k) i []))
+        → (i - size k < size s → size (subtree s (i - size k)) ≡ sizeWord (getD (listed s) (i - size k) []))
         → size (cond t (subtree k i) (subtree s (i - size k))) ≡ sizeWord (getD (listed k ++ listed s) i [])
     go true e p q = p (ltb-true i (size k) e) ∙ ap sizeWord (sym (List·getD-append (listed k) (listed s) [] i (omega (arith, length-listed k, ltb-true i (size k) e))))
     go false e p q =

@@ -41,7 +41,8 @@ listed-at n lv (sheet r s) g (suc i) h = listed-at n lv s (g .2) i (omega arith)
 listed-at n lv (folder r k s) g zero h = sym (rw (eq-eqb (kindWord r) 3 (g .1 .kind)))
 listed-at n lv (folder r k s) g (suc i) h = go (ltb i (size k)) refl (listed-at n (lv - 1) k (g .2) i) (listed-at n lv s (g .3) (i - size k))
   where
-    go : (t : Bool) → ltb i (size k) ≡ t → (i < size k → sheetHere (subtree k i) ≡ sheetIn (getD (listed k) i [])) → (i - size k < size s → sheetHere (subtree s (i - size k)) ≡ sheetIn (getD (listed s) (i - size k) []))
+    go : (t : Bool) → ltb i (size k) ≡ t → (i < size k → sheetHere (subtree k i) ≡ sheetIn (getD (listed k) i []))
+        → (i - size k < size s → sheetHere (subtree s (i - size k)) ≡ sheetIn (getD (listed s) (i - size k) []))
         → sheetHere (cond t (subtree k i) (subtree s (i - size k))) ≡ sheetIn (getD (listed k ++ listed s) i [])
     go true e p q = p (ltb-true i (size k) e) ∙ ap sheetIn (sym (List·getD-append (listed k) (listed s) [] i (omega (arith, length-listed k, ltb-true i (size k) e))))
     go false e p q =
@@ -91,7 +92,8 @@ module _ (w : ℕ) (s t : List ℕ) (p : checkOf w s ≡ 0) (q : checkOf w t ≡
     where
       go : (o : Option (Two Sheet)) → sheetHere (pairAt (tableOf w s) (tableOf w t) row) ≡ o
           → some (ruling covers (record { row = rowOf (rowAt w s row); known = ka }) (record { row = rowOf (rowAt w t row); known = kb })) ≡ rulingHere (tableOf w s) (tableOf w t) row
-      go none z = absurd (false≢true (sym (folder-row w t q row ht ∙ ne-eqb (kindWord (rowAt w t row)) 3 k) ∙ ap isFolder (side-right (tableOf w s) (tableOf w t) row e ∙ ap (Option·map (λ x. x .b)) z)))
+      go none z =
+          absurd (false≢true (sym (folder-row w t q row ht ∙ ne-eqb (kindWord (rowAt w t row)) 3 k) ∙ ap isFolder (side-right (tableOf w s) (tableOf w t) row e ∙ ap (Option·map (λ x. x .b)) z)))
       go (some x) z =
           let rule = ruleAt (tableOf w s .clock) (tableOf w t .clock) (above (tableOf w s .tree) row) (above (tableOf w t .tree) row) in
           let u = sheet-says w s p row hs (λ x. x .a) _ (side-left (tableOf w s) (tableOf w t) row e) x z in

@@ -4,7 +4,8 @@ use native.Mathlib.Omega.{arith}
 use lib.ListN.{length}
 use borrow.Rule.Slice.PartMut.{putMid}
 use Rattle.paper.specs.Columns.{vec}
-use Rattle.paper.specs.Words.{wide, tableOf}
+use Rattle.paper.specs.Words.{wide, Table, tableOf}
+use Rattle.paper.specs.Devices.{devices}
 use Rattle.laws.proofs.Widths.{width-few}
 use Rattle.paper.specs.Calls.{passDone}
 use Rattle.walk.specs.Parts.{Passed}
@@ -17,79 +18,73 @@ use Rattle.pass.proofs.make_pass.Tie as tie
 room : (c : tie.Start) → Room (wide (c .args .columns)) (c .args .source .now) (c .args .target .now) (c .args .row) (length (c .args .answers .now))
 room c = pass-room (c .args .columns) _ _ _ _ (c .pre .0)
 
-few : (c : tie.Start) → c .args .columns ≤ 16
+few : (c : tie.Start) → c .args .columns ≤ devices
 few c = width-few (c .args .columns) (c .pre .1)
 
--- the clocks and the floors above, as they were read
-abbrev begin : tie.After-above-row2 → tie.Start
-begin c = c .before .before .before .before .before .before .before .before .before
+abbrev a : tie.Start → Table
+a s = tableOf (s .args .columns) (s .args .source .now)
 
+abbrev b : tie.Start → Table
+b s = tableOf (s .args .columns) (s .args .target .now)
+
+-- the clocks and the floors above, as they were read
 begun : (c : tie.After-above-row2)
-    → Begun (tableOf (begin c .args .columns) (begin c .args .source .now)) (tableOf (begin c .args .columns) (begin c .args .target .now)) (begin c .args .row) (c .before .before .before .before .before .clock-of .result) (c .before .before .before .clock-of2 .result) (vec (c .before .before .above-row .result .0)) (vec (c .above-row2 .result .0))
+    → let s : tie.Start = search in
+    let ca : tie.After-clock-of = search in
+    let cb : tie.After-clock-of2 = search in
+    let ua : tie.After-above-row = search in
+    Begun (a s) (b s) (s .args .row) (ca .clock-of .result) (cb .clock-of2 .result) (vec (ua .above-row .result .0)) (vec (c .above-row2 .result .0))
 begun c =
-    let clock-of : tie.After-clock-of = search in
-    record {
-      source = clock-of .clock-of .ensures _;
-      target = c .before .before .before .clock-of2 .ensures _;
-      aboveA = c .before .before .above-row .ensures;
-      aboveB = c .above-row2 .ensures;
-    }
+    let ca : tie.After-clock-of = search in
+    let cb : tie.After-clock-of2 = search in
+    let ua : tie.After-above-row = search in
+    record { source = ca .clock-of .ensures _; target = cb .clock-of2 .ensures _; aboveA = ua .above-row .ensures; aboveB = c .above-row2 .ensures }
 
 -- the rows walked
-abbrev read : tie.After-pass-row → tie.After-above-row2
-read c = c .before .before .before .before
-
 walked : (c : tie.After-pass-row)
-    → Passed (begin (read c) .args .columns) (read c .before .before .before .before .before .clock-of .result) (read c .before .before .before .clock-of2 .result) (both (begin (read c) .args .columns) _ _ _ _ (begin (read c) .pre .0)) (vec (read c .before .before .above-row .result .0)) (vec (read c .above-row2 .result .0)) (c .pass-row .last .1 .0) (c .pass-row .last .1 .1 .0) (c .pass-row .result)
-walked c = c .pass-row .ensures (both (begin (read c) .args .columns) _ _ _ _ (begin (read c) .pre .0)) (single-both (begin (read c) .args .columns) _ _ _ _ (begin (read c) .pre .0)) (pass-fits (begin (read c) .args .columns) _ _ _ _ (begin (read c) .pre .0) (begun (read c)))
+    → let s : tie.Start = search in
+    let ca : tie.After-clock-of = search in
+    let cb : tie.After-clock-of2 = search in
+    let ua : tie.After-above-row = search in
+    let ub : tie.After-above-row2 = search in
+    let back = c .pass-row .last .1 in
+    Passed (s .args .columns) (ca .clock-of .result) (cb .clock-of2 .result) (both (s .args .columns) _ _ _ _ (s .pre .0)) (vec (ua .above-row .result .0))
+    (vec (ub .above-row2 .result .0)) (back .0) (back .1 .0) (c .pass-row .result)
+walked c =
+    let s : tie.Start = search in
+    let w = s .args .columns in
+    let e = s .pre .0 in
+    c .pass-row .ensures (both w _ _ _ _ e) (single-both w _ _ _ _ e) (pass-fits w _ _ _ _ e (begun (search)))
 
 done : (c : tie.After-pass-row)
-    → Changed (begin (read c) .args .columns) (begin (read c) .args .target .now) (putMid ((begin (read c) .args .row + 1) * wide (begin (read c) .args .columns)) ((begin (read c) .args .row + 1) * wide (begin (read c) .args .columns) + length (begin (read c) .args .answers .now) * wide (begin (read c) .args .columns) - (begin (read c) .args .row + 1) * wide (begin (read c) .args .columns)) (begin (read c) .args .target .now) (c .pass-row .last .1 .0)) (begin (read c) .args .row)
-    (passDone (begin (read c) .args .columns) (tableOf (begin (read c) .args .columns) (begin (read c) .args .source .now)) (tableOf (begin (read c) .args .columns) (begin (read c) .args .target .now)) (begin (read c) .args .row))
-done c = pass-changed (begin (read c) .args .columns) _ _ _ _ (begin (read c) .pre .0) (begun (read c)) (walked c)
-
-above-row-requires : tie.Need-above-row-requires
-above-row-requires c κs = let s : tie.Start = search in let p = accepted (s .args .columns) _ _ _ _ (s .pre .0) in ((p .source, few (s)), p .inSource)
-
-above-row-requires-2 : tie.Need-above-row-requires-2
-above-row-requires-2 c κs =
-    let s : tie.Start = search in
-    let p = accepted (s .args .columns) _ _ _ _ (s .pre .0) in ((p .target, few (s)), p .inTarget)
-
-pass-row-requires : tie.Need-pass-row-requires
-pass-row-requires c κs = (begin (c .before .before .before) .pre .1, pass-begins (begin (c .before .before .before) .args .columns) _ _ _ _ (begin (c .before .before .before) .pre .0) (begun (c .before .before .before)))
-
-mend-above-requires : tie.Need-mend-above-requires
-mend-above-requires c κs =
-    let pass-row : tie.After-pass-row = search in
-    let y = siblings (done (pass-row)) in (y .0, (y .1, begin (read (pass-row)) .pre .1))
-
-cast-result : tie.Need-cast-result
-cast-result c =
-    let pass-row : tie.After-pass-row = search in
-    let w = pass-row in
-    omega (arith, count-few (begin (read w) .args .columns) _ _ _ _ (begin (read w) .pre .0) (begun (read w)) (walked w))
-
-same-length : tie.Need-same-length
-same-length c =
-    let pass-row : tie.After-pass-row = search in
-    same-long (done (pass-row)) (c .before .before .mend-above .last .0) (c .before .before .mend-above .kept .0)
+    → let s : tie.Start = search in
+    let w = s .args .columns in
+    let from = (s .args .row + 1) * wide w in
+    Changed w (s .args .target .now) (putMid from (from + length (s .args .answers .now) * wide w - from) (s .args .target .now) (c .pass-row .last .1 .0)) (s .args .row)
+    (passDone w (a s) (b s) (s .args .row))
+done c = let s : tie.Start = search in pass-changed (s .args .columns) _ _ _ _ (s .pre .0) (begun (search)) (walked c)
 
 returns : tie.Need-returns
 returns c =
-    let pass-row : tie.After-pass-row = search in
-    let w = pass-row in
-    passed-all (begin (read w) .args .columns) _ _ _ _ (begin (read w) .pre .0) (begun (read w)) (walked w) _ (done w .all (c .before .before .mend-above .last .0) (c .before .before .mend-above .ensures))
+    let s : tie.Start = search in
+    let k : tie.After-pass-row = search in
+    let m = c .before .before .mend-above in
+    passed-all (s .args .columns) _ _ _ _ (s .pre .0) (begun (search)) (walked k) _ (done k .all (m .last .0) (m .ensures))
 
 pub make-pass-spec : {M : Type 1} → statement M
 make-pass-spec =
     tie.close
     (tie.spec
-    (λ c κs. omega (arith, room (c .before .before .before))) (λ c κs. let s : tie.Start = search in omega (arith, room (s))) above-row-requires
-    above-row-requires-2 (λ c. let h = few (begin c) in omega arith) (λ c. let h = few (begin c) in omega arith) (λ c. omega (arith, room (begin c)))
-    (λ c. omega (arith, room (begin c))) (λ c. omega (arith, room (begin c))) (λ c. omega (arith, room (begin c)))
-    (λ c. omega (arith, room (begin c))) (λ c. search needs) (λ c. search needs) (λ c. room (begin c) .inSource)
-    (λ c. omega (arith, room (begin (c .before)))) (λ c. search needs) (λ c. search needs) (λ c. room (begin (c .before)) .inTarget)
-    pass-row-requires (λ c. let h = few (begin (read (c .before .before .before .before))) in omega arith)
-    (λ c. done (c .before .before .before .before) .room) (λ c. done (c .before .before .before .before) .room) (λ c. search needs)
-    mend-above-requires cast-result same-length (λ c. let pass-row : tie.After-pass-row = search in pass-row .pass-row .kept .1 .1 .0) returns)
+    (λ c κs. omega (arith, room (search))) (λ c κs. omega (arith, room (search)))
+    (λ c κs. let s : tie.Start = search in let p = accepted (s .args .columns) _ _ _ _ (s .pre .0) in ((p .source, few s), p .inSource))
+    (λ c κs. let s : tie.Start = search in let p = accepted (s .args .columns) _ _ _ _ (s .pre .0) in ((p .target, few s), p .inTarget))
+    (λ c. let h = few (search) in omega arith) (λ c. let h = few (search) in omega arith) (λ c. omega (arith, room (search)))
+    (λ c. omega (arith, room (search))) (λ c. omega (arith, room (search))) (λ c. omega (arith, room (search))) (λ c. omega (arith, room (search)))
+    (λ c. search needs) (λ c. search needs) (λ c. room (search) .inSource) (λ c. omega (arith, room (search))) (λ c. search needs) (λ c. search needs)
+    (λ c. room (search) .inTarget)
+    (λ c κs. let s : tie.Start = search in (s .pre .1, pass-begins (s .args .columns) _ _ _ _ (s .pre .0) (begun (search))))
+    (λ c. let h = few (search) in omega arith) (λ c. done (search) .room) (λ c. done (search) .room) (λ c. search needs)
+    (λ c κs. let s : tie.Start = search in let y = siblings (done (search)) in (y .0, (y .1, s .pre .1)))
+    (λ c. let s : tie.Start = search in omega (arith, count-few (s .args .columns) _ _ _ _ (s .pre .0) (begun (search)) (walked (search))))
+    (λ c. let m = c .before .before .mend-above in same-long (done (search)) (m .last .0) (m .kept .0))
+    (λ c. let k : tie.After-pass-row = search in k .pass-row .kept .1 .1 .0) returns)

@@ -1,5 +1,5 @@
 -- 0 is none of them; of the others 3 is the last.
-use Rattle.refused.proofs.Settling.{named-none, named-some}
+use Rattle.refused.proofs.NamedNumbers.{named-none, named-some}
 use Rattle.refused.proofs.is_one_to_three.Statement.{statement}
 use Rattle.refused.proofs.is_one_to_three.Tie as tie
 

@@ -10,13 +10,10 @@ Inv-loop table₀ i₀ table i = i ≤ 258
 abbrev μ-loop : tie.MeasureT-loop
 μ-loop table₀ i₀ table i = 258 - i
 
-returns : tie.Need-returns Inv-loop μ-loop
-returns c = search needs
-
 pub many-spec : {M : Type 1} → statement M
 many-spec =
     tie.close
     (tie.spec
     Inv-loop μ-loop (λ c. search needs) (λ c. search needs) (λ c. search needs) (λ c. search needs) (λ c. search needs) (λ c. search needs)
     (λ c. search needs) (λ c. search needs) (λ c. search needs) (λ c. search needs) (λ c. search needs) (λ c. search needs) (λ c. search needs)
-    returns)
+    (λ c. search needs))

@@ -1,5 +1,5 @@
 -- Choice by choice.
-use Rattle.refused.proofs.Settling.{stamps-theirs, stamps-other}
+use Rattle.refused.proofs.NamedNumbers.{stamps-theirs, stamps-other}
 use Rattle.refused.proofs.of_pair.is_stamping.Statement.{statement}
 use Rattle.refused.proofs.of_pair.is_stamping.Tie as tie
 

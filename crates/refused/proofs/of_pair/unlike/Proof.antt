@@ -1,114 +1,71 @@
 -- Each return is the first test that refuses.
 use mathlib.Core.Bool.{true, false}
-use borrow.Author.Tests.{not-true, not-false, eq-eqb, ne-eqb}
-use Rattle.paper.specs.Refusals.{first, when}
-use Rattle.two.proofs.TwoTables.{unlike-by, clock-device, no-row, row-there, table-long}
+use mathlib.Core.Path.{_≡_, sym, ap, ap₂, _∙_}
 use native.Mathlib.Omega.{arith}
-use mathlib.Core.Path.{refl, sym, _∙_}
 use borrow.Author.Needs.{needs}
+use borrow.Author.Tests.{not-true, not-false, eq-eqb, ne-eqb}
+use lib.Dec.{eqb, leb}
+use Rattle.paper.specs.Tree.{size, shaped, later}
+use Rattle.paper.specs.Words.{Table, tableOf}
+use Rattle.paper.specs.Refusals.{when}
+use Rattle.paper.specs.Calls.{unlike}
+use Rattle.paper.specs.declared.Clock.{Clock}
+use Rattle.laws.proofs.Refusals.{first-one, first-passed, first-met, first-held, first-failed, when-true, when-false}
+use Rattle.two.proofs.TwoTables.{clock-device, no-row, row-there, table-long}
 use Rattle.refused.proofs.of_pair.unlike.Statement.{statement}
 use Rattle.refused.proofs.of_pair.unlike.Tie as tie
 
-returns : tie.Need-returns
-unfolding first when
-returns c =
-    unlike-by _ _ _ _ _ false _ _ _ _ refl refl
-    (sym (not-true _ (c .if1 .taken)) ∙ c .before .same-shape .ensures) refl refl refl refl
+abbrev a : tie.Start → Table
+a s = tableOf (s .args .columns) (s .args .source .now)
 
-clock-of-requires : tie.Need-clock-of-requires
-clock-of-requires c κs = let start = c .before .before .before .before in omega (arith, table-long (start .args .columns) (start .args .source .now) (start .pre .0))
+abbrev b : tie.Start → Table
+b s = tableOf (s .args .columns) (s .args .target .now)
 
-clock-of-requires-2 : tie.Need-clock-of-requires-2
-clock-of-requires-2 c κs =
-    let s : tie.Start = search in
-    let start = s in omega (arith, table-long (start .args .columns) (start .args .target .now) (start .pre .1))
+-- the two clocks, as they were read
+clock-a : (c : tie.After-clock-of) → let s : tie.Start = search in c .clock-of .result ≡ a s .clock
+clock-a c = c .clock-of .ensures _
 
-returns-2 : tie.Need-returns-2
-unfolding first when
-returns-2 c =
-    let read = c .before .before .before in
-    let one = read .before .before in
-    unlike-by _ _ _ _ _ true true _ _ _ (read .before .clock-of .ensures _) (read .clock-of2 .ensures _)
-    (sym (not-false _ (one .if1 .left)) ∙ one .before .same-shape .ensures)
-    (sym (eq-eqb _ _ (c .if2 .taken))) refl refl refl
+clock-b : (c : tie.After-clock-of2) → let s : tie.Start = search in c .clock-of2 .result ≡ b s .clock
+clock-b c = c .clock-of2 .ensures _
 
-names-later-requires : tie.Need-names-later-requires
-names-later-requires c κs =
-    let read = c .before .before .before in
-    let start = read .before .before .before .before .before .before in
-    (start .pre .0, clock-device (start .args .columns) (start .args .target .now) (start .pre .1) (read .clock-of2 .result) (read .clock-of2 .ensures _), start .pre .2)
+-- the tests that were passed
+same : (c : tie.Else1) → let s : tie.Start = search in shaped (a s .tree) (b s .tree) ≡ true
+same c = sym (c .before .same-shape .ensures) ∙ not-false _ (c .if1 .left)
 
-returns-3 : tie.Need-returns-3
-unfolding first when
-returns-3 c =
-    let two = c .before .before in
-    let read = two .before .before .before in
-    let one = read .before .before in
-    unlike-by _ _ _ _ _ true false true _ _ (read .before .clock-of .ensures _) (read .clock-of2 .ensures _)
-    (sym (not-false _ (one .if1 .left)) ∙ one .before .same-shape .ensures)
-    (sym (ne-eqb _ _ (two .if2 .left)))
-    (sym (c .if3 .taken) ∙ c .before .names-later .ensures) refl refl
+apart : (c : tie.Else2) → let s : tie.Start = search in eqb (a s .clock .device) (b s .clock .device) ≡ false
+apart c = ap₂ (λ (x y : Clock). eqb (x .device) (y .device)) (sym (clock-a (search))) (sym (clock-b (search))) ∙ ne-eqb _ _ (c .if2 .left)
 
-names-later-requires-2 : tie.Need-names-later-requires-2
-names-later-requires-2 c κs =
-    let clock-of2 : tie.After-clock-of2 = search in
-    let read = clock-of2 in
-    let start = read .before .before .before .before .before .before in
-    (start .pre .1, clock-device (start .args .columns) (start .args .source .now) (start .pre .0) (read .before .clock-of .result) (read .before .clock-of .ensures _), start .pre .2)
+six : (c : tie.After-names-later) → let s : tie.Start = search in later (b s .clock) (a s .tree) ≡ c .names-later .result
+six c = let s : tie.Start = search in ap (λ (x : Clock). later x (a s .tree)) (sym (clock-b (search))) ∙ sym (c .names-later .ensures)
+
+seven : (c : tie.After-names-later2) → let s : tie.Start = search in later (a s .clock) (b s .tree) ≡ c .names-later2 .result
+seven c = let s : tie.Start = search in ap (λ (x : Clock). later x (b s .tree)) (sym (clock-a (search))) ∙ sym (c .names-later2 .ensures)
 
 returns-4 : tie.Need-returns-4
-unfolding first when
+unfolding unlike
 returns-4 c =
-    let three = c .before .before in
-    let two = three .before .before in
-    let read = two .before .before .before in
-    let one = read .before .before in
-    unlike-by _ _ _ _ _ true false false true _ (read .before .clock-of .ensures _) (read .clock-of2 .ensures _)
-    (sym (not-false _ (one .if1 .left)) ∙ one .before .same-shape .ensures)
-    (sym (ne-eqb _ _ (two .if2 .left)))
-    (sym (three .if3 .left) ∙ three .before .names-later .ensures)
-    (sym (c .if4 .taken) ∙ c .before .names-later2 .ensures) refl
+    let three : tie.Else3 = search in
+    sym (first-held _ _ (same (search)) ∙ first-passed _ _ (apart (search)) ∙ first-passed _ _ (six (search) ∙ three .if3 .left) ∙ first-met 6 _ (seven (search) ∙ c .if4 .taken))
 
-shared-slice-read-if5 : tie.Need-shared-slice-read-if5
-shared-slice-read-if5 c =
-    let s : tie.Start = search in
-    let start = s in omega (arith, table-long (start .args .columns) (start .args .target .now) (start .pre .1))
-
-returns-5 : tie.Need-returns-5
-unfolding first when
-returns-5 c =
-    let four = c .before .before in
-    let three = four .before .before in
-    let two = three .before .before in
-    let read = two .before .before .before in
-    let one = read .before .before in
-    let start = one .before .before .before .before in
-    unlike-by _ _ _ _ _ true false false false true (read .before .clock-of .ensures _) (read .clock-of2 .ensures _)
-    (sym (not-false _ (one .if1 .left)) ∙ one .before .same-shape .ensures)
-    (sym (ne-eqb _ _ (two .if2 .left)))
-    (sym (three .if3 .left) ∙ three .before .names-later .ensures)
-    (sym (four .if4 .left) ∙ four .before .names-later2 .ensures)
-    (no-row (start .args .columns) (start .args .target .now) (start .pre .1) (start .args .row) (c .if5 .taken))
-
-returns-6 : tie.Need-returns-6
-unfolding first when
-returns-6 c =
-    let four = c .before .before in
-    let three = four .before .before in
-    let two = three .before .before in
-    let read = two .before .before .before in
-    let one = read .before .before in
-    let start = one .before .before .before .before in
-    unlike-by _ _ _ _ _ true false false false false (read .before .clock-of .ensures _) (read .clock-of2 .ensures _)
-    (sym (not-false _ (one .if1 .left)) ∙ one .before .same-shape .ensures)
-    (sym (ne-eqb _ _ (two .if2 .left)))
-    (sym (three .if3 .left) ∙ three .before .names-later .ensures)
-    (sym (four .if4 .left) ∙ four .before .names-later2 .ensures)
-    (row-there (start .args .columns) (start .args .target .now) (start .pre .1) (start .args .row) (c .if5 .left))
+-- what is left once the tables are accepted
+row-left : (c : tie.Else4) → let s : tie.Start = search in unlike (a s) (b s) (s .args .row) ≡ when (leb (size (b s .tree)) (s .args .row)) 8
+unfolding unlike
+row-left c =
+    let three : tie.Else3 = search in
+    first-held _ _ (same (search)) ∙ first-passed _ _ (apart (search)) ∙ first-passed _ _ (six (search) ∙ three .if3 .left) ∙ first-passed _ _ (seven (search) ∙ c .if4 .left) ∙ first-one _
 
 pub unlike-spec : {M : Type 1} → statement M
+unfolding unlike
 unlike-spec =
     tie.close
     (tie.spec
-    (λ c κs. search needs) returns clock-of-requires clock-of-requires-2 returns-2 names-later-requires returns-3 names-later-requires-2 returns-4
-    shared-slice-read-if5 returns-5 returns-6)
+    (λ c κs. search needs) (λ c. sym (first-failed 3 _ (sym (c .before .same-shape .ensures) ∙ not-true _ (c .if1 .taken))))
+    (λ c κs. let s : tie.Start = search in omega (arith, table-long _ _ (s .pre .0)))
+    (λ c κs. let s : tie.Start = search in omega (arith, table-long _ _ (s .pre .1)))
+    (λ c. sym (first-held _ _ (same (search)) ∙ first-met 4 _ (ap₂ (λ (x y : Clock). eqb (x .device) (y .device)) (sym (clock-a (search))) (sym (clock-b (search))) ∙ eq-eqb _ _ (c .if2 .taken))))
+    (λ c κs. let s : tie.Start = search in (s .pre .0, clock-device _ _ (s .pre .1) _ (clock-b (search)), s .pre .2))
+    (λ c. sym (first-held _ _ (same (search)) ∙ first-passed _ _ (apart (search)) ∙ first-met 5 _ (six (search) ∙ c .if3 .taken)))
+    (λ c κs. let s : tie.Start = search in (s .pre .1, clock-device _ _ (s .pre .0) _ (clock-a (search)), s .pre .2)) returns-4
+    (λ c. let s : tie.Start = search in omega (arith, table-long _ _ (s .pre .1)))
+    (λ c. let s : tie.Start = search in sym (row-left (search) ∙ when-true _ _ (no-row _ _ (s .pre .1) _ (c .if5 .taken))))
+    (λ c. let s : tie.Start = search in sym (row-left (search) ∙ when-false _ _ (row-there _ _ (s .pre .1) _ (c .if5 .left)))))

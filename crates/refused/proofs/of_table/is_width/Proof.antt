@@ -1,17 +1,14 @@
--- Eight or sixteen.
+-- Narrow or wide.
 use mathlib.Core.Path.{sym}
 use borrow.Author.Tests.{eq-eqb, ne-eqb}
 use Rattle.paper.specs.Widths.{eightOrSixteen}
 use Rattle.refused.proofs.of_table.is_width.Statement.{statement}
 use Rattle.refused.proofs.of_table.is_width.Tie as tie
 
-returns : tie.Need-returns
-unfolding eightOrSixteen
-returns c = sym (rw (eq-eqb (c .before .args .columns) 8 (c .if1 .taken)))
-
-returns-2 : tie.Need-returns-2
-unfolding eightOrSixteen
-returns-2 c = sym (rw (ne-eqb (c .before .args .columns) 8 (c .if1 .left)))
-
 pub is-width-spec : {M : Type 1} → statement M
-is-width-spec = tie.close (tie.spec returns returns-2)
+unfolding eightOrSixteen
+is-width-spec =
+    tie.close
+    (tie.spec
+    (λ c. let s : tie.Start = search in sym (rw (eq-eqb (s .args .columns) _ (c .if1 .taken))))
+    (λ c. let s : tie.Start = search in sym (rw (ne-eqb (s .args .columns) _ (c .if1 .left)))))

@@ -1,44 +1,42 @@
 -- Each return is the first test that applies.
-use borrow.Author.Tests.{not-true, not-false, eq-eqb, ne-eqb, le-leb, lt-leb}
-use Rattle.refused.proofs.NewTable.{new-by, plan-few}
-use mathlib.Core.Bool.{true, false}
+use Prim.Native.Nat.{_*_, _≤_}
+use mathlib.Core.Path.{_≡_, sym, _∙_}
+use mathlib.Core.Bool.{false}
 use native.Mathlib.Omega.{arith}
-use mathlib.Core.Path.{refl, sym, _∙_}
+use borrow.Author.Needs.{needs}
+use borrow.Author.Tests.{not-true, not-false, eq-eqb, ne-eqb, le-leb, lt-leb}
+use lib.Dec.{leb}
 use lib.ListN.{length}
 use Rattle.paper.specs.Words.{wide}
+use Rattle.paper.specs.Calls.{planFits, newRefused}
+use Rattle.laws.proofs.Refusals.{first-none, first-passed, first-met, first-held, first-failed}
 use Rattle.vector.proofs.Parts.{words-small}
-use borrow.Author.Needs.{needs}
+use Rattle.refused.proofs.NewTable.{plan-few}
 use Rattle.refused.proofs.of_table.new_refused.Statement.{statement}
 use Rattle.refused.proofs.of_table.new_refused.Tie as tie
 
-returns : tie.Need-returns
-returns c = sym (new-by (c .before .before .before .args .columns) (c .before .before .before .args .device) (c .before .before .before .args .plan .now) (c .before .before .before .args .table .now) true _ _ (le-leb (c .before .before .before .args .columns) (c .before .before .before .args .device) (omega (arith, c .if1 .taken))) refl refl)
+-- the device is a column, and the plan gives rows
+device : (c : tie.Else1) → let s : tie.Start = search in leb (s .args .columns) (s .args .device) ≡ false
+device c = let s : tie.Start = search in lt-leb (s .args .columns) (s .args .device) (omega (arith, c .if1 .left))
 
-returns-2 : tie.Need-returns-2
-returns-2 c =
-    let s : tie.Start = search in
-    sym (new-by (s .args .columns) (s .args .device) (s .args .plan .now) (s .args .table .now) false false _ (lt-leb (s .args .columns) (s .args .device) (omega (arith, c .before .before .if1 .left))) (sym (c .before .plan-fits .ensures _) ∙ not-true _ (c .if2 .taken)) refl)
+plan : (c : tie.After-plan-fits) → let s : tie.Start = search in planFits (s .args .columns) (s .args .plan .now) ≡ c .plan-fits .result
+unfolding planFits
+plan c = sym (c .plan-fits .ensures _)
 
-mul-if3 : tie.Need-mul-if3
-mul-if3 c =
+small : (c : tie.Else2) → let s : tie.Start = search in length (s .args .plan .now) * wide (s .args .columns) ≤ 18432
+small c =
     let s : tie.Start = search in
-    let q = plan-few (s .args .columns) (s .args .plan .now) (sym (c .before .plan-fits .ensures _) ∙ not-false _ (c .if2 .left)) in omega (arith, words-small (length (s .args .plan .now)) (wide (s .args .columns)) q (omega (arith, s .pre)), s .pre)
-
-add-if3 : tie.Need-add-if3
-add-if3 c =
-    let s : tie.Start = search in
-    let q = plan-few (s .args .columns) (s .args .plan .now) (sym (c .before .plan-fits .ensures _) ∙ not-false _ (c .if2 .left)) in omega (arith, words-small (length (s .args .plan .now)) (wide (s .args .columns)) q (omega (arith, s .pre)), s .pre)
-
-returns-3 : tie.Need-returns-3
-returns-3 c =
-    let s : tie.Start = search in
-    sym (new-by (s .args .columns) (s .args .device) (s .args .plan .now) (s .args .table .now) false true false (lt-leb (s .args .columns) (s .args .device) (omega (arith, c .before .before .before .if1 .left))) (sym (c .before .before .plan-fits .ensures _) ∙ not-false _ (c .before .if2 .left)) (ne-eqb _ _ (c .if3 .taken)))
-
-returns-4 : tie.Need-returns-4
-returns-4 c =
-    let s : tie.Start = search in
-    sym (new-by (s .args .columns) (s .args .device) (s .args .plan .now) (s .args .table .now) false true true (lt-leb (s .args .columns) (s .args .device) (omega (arith, c .before .before .before .if1 .left))) (sym (c .before .before .plan-fits .ensures _) ∙ not-false _ (c .before .if2 .left)) (eq-eqb _ _ (c .if3 .left)))
+    words-small (length (s .args .plan .now)) (wide (s .args .columns)) (plan-few (s .args .columns) _ (plan (search) ∙ not-false _ (c .if2 .left))) (omega (arith, s .pre))
 
 pub new-refused-spec : {M : Type 1} → statement M
+unfolding newRefused
 new-refused-spec =
-    tie.close (tie.spec returns (λ c κs. search needs) returns-2 (λ c. let s : tie.Start = search in let h = s .pre in omega arith) (λ c. let s : tie.Start = search in let h = s .pre in omega arith) mul-if3 add-if3 returns-3 returns-4)
+    tie.close
+    (tie.spec
+    (λ c. let s : tie.Start = search in sym (first-met 16 _ (le-leb (s .args .columns) (s .args .device) (omega (arith, c .if1 .taken)))))
+    (λ c κs. search needs) (λ c. sym (first-passed _ _ (device (search)) ∙ first-failed 1 _ (plan (search) ∙ not-true _ (c .if2 .taken))))
+    (λ c. let s : tie.Start = search in omega (arith, s .pre)) (λ c. let s : tie.Start = search in omega (arith, s .pre))
+    (λ c. let s : tie.Start = search in omega (arith, small c, s .pre)) (λ c. let s : tie.Start = search in omega (arith, small c, s .pre))
+    (λ c. let k : tie.Else2 = search in sym (first-passed _ _ (device (search)) ∙ first-held _ _ (plan (search) ∙ not-false _ (k .if2 .left)) ∙ first-failed 8 _ (ne-eqb _ _ (c .if3 .taken))))
+    (λ c. let k : tie.Else2 = search in sym (first-passed _ _ (device (search)) ∙ first-held _ _ (plan (search) ∙ not-false _ (k .if2 .left))
+    ∙ first-held _ _ (eq-eqb _ _ (c .if3 .left)) ∙ first-none)))

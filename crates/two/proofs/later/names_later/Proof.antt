@@ -17,47 +17,45 @@ Inv-loop table clock columns width rows column row₀ row = (row ≤ rows) × Ch
 abbrev μ-loop : tie.MeasureT-loop
 μ-loop table clock columns width rows column row₀ row = rows - row
 
--- where the row stands
-at : (c : tie.In-loop Inv-loop μ-loop) → Begins (c .before .before .before .before .args .columns) (c .before .before .before .before .args .table .now) (c .before .loop .row)
-at c = let start = c .before .before .before .before in begins (start .args .columns) (start .args .table .now) (c .before .loop .row) (start .pre .2) (start .pre .0) (omega arith)
+abbrev Start : Type 0
+Start = tie.Start Inv-loop μ-loop
 
-shared-slice-read-rows : tie.Need-shared-slice-read-rows Inv-loop μ-loop
-shared-slice-read-rows c = let start = c .before in omega (arith, check-facts (start .args .columns) (start .args .table .now) (start .pre .0) .head .long)
+abbrev Here : Type 0
+Here = tie.At-loop Inv-loop μ-loop
+
+-- where the row stands
+at : (c : tie.In-loop Inv-loop μ-loop) → let s : Start = search in Begins (s .args .columns) (s .args .table .now) (c .before .loop .row)
+at c = let s : Start = search in begins _ _ _ (s .pre .2) (s .pre .0) (omega arith)
 
 loop-holds : tie.Need-loop-holds Inv-loop μ-loop
-loop-holds c =
-    let start = c .before .before in
-    let t = start .args .table .now in
-    let k = check-facts (start .args .columns) t (start .pre .0) in
-    (search needs, k, later-all (start .args .columns) (start .args .clock) t k)
-
-add-if1 : tie.Need-add-if1 Inv-loop μ-loop
-add-if1 c = let r = at c in omega (arith, r .room, r .few, c .before .before .before .before .pre .1, c .before .before .before .before .pre .2)
+loop-holds c = let s : Start = search in let k = check-facts _ _ (s .pre .0) in (search needs, k, later-all _ (s .args .clock) _ k)
 
 returns : tie.Need-returns Inv-loop μ-loop
 returns c =
-    let here = c .before .before .before .before in
-    let start = here .before .before .before in
-    sym (here .loop .inv .2 ∙ later-here (start .args .columns) (start .args .clock) (start .args .table .now) (here .loop .row) (omega arith) (start .pre .1) (omega arith))
+    let s : Start = search in
+    let here : Here = search in
+    sym (here .loop .inv .2 ∙ later-here _ (s .args .clock) (s .args .table .now) (here .loop .row) (omega arith) (s .pre .1) (omega arith))
 
 loop-again : tie.Need-loop-again Inv-loop μ-loop
 loop-again c =
-    let here = c .before .before .before .before in
-    let start = here .before .before .before in
-    (search needs, here .loop .inv .1, here .loop .inv .2 ∙ later-next (start .args .columns) (start .args .clock) (start .args .table .now) (here .loop .row) (omega arith) (start .pre .1) (omega arith))
+    let s : Start = search in
+    let here : Here = search in
+    let e = later-next _ (s .args .clock) (s .args .table .now) (here .loop .row) (omega arith) (s .pre .1) (omega arith) in
+    (search needs, here .loop .inv .1, here .loop .inv .2 ∙ e)
 
 returns-2 : tie.Need-returns-2 Inv-loop μ-loop
 returns-2 c =
-    let here = c .before in
-    let start = here .before .before .before in
-    sym (here .loop .inv .2 ∙ later-end (start .args .columns) (start .args .clock) (start .args .table .now) (here .loop .row) (omega arith))
+    let s : Start = search in
+    let here : Here = search in
+    sym (here .loop .inv .2 ∙ later-end _ (s .args .clock) (s .args .table .now) (here .loop .row) (omega arith))
 
 pub names-later-spec : {M : Type 1} → statement M
 names-later-spec =
     tie.close
     (tie.spec
-    Inv-loop μ-loop (λ c. let h = c .pre .2 in omega arith) (λ c. let h = c .pre .2 in omega arith) shared-slice-read-rows
+    Inv-loop μ-loop (λ c. let h = c .pre .2 in omega arith) (λ c. let h = c .pre .2 in omega arith)
+    (λ c. let s : Start = search in omega (arith, check-facts _ _ (s .pre .0) .head .long))
     (λ c. omega (arith, c .shared-slice-known .given 2)) (λ c. search needs) (λ c. search needs) loop-holds (λ c. search needs)
-    (λ c. let r = at c in omega (arith, r .room, r .few)) add-if1 (λ c. let r = at c in omega (arith, r .room, r .few))
-    (λ c. let r = at (c .before) in omega (arith, r .room, c .before .before .before .before .before .pre .1)) returns (λ c. search needs)
-    (λ c. search needs) loop-again returns-2)
+    (λ c. let r = at c in omega (arith, r .room, r .few)) (λ c. let s : Start = search in let r = at c in omega (arith, r .room, r .few, s .pre))
+    (λ c. let r = at c in omega (arith, r .room, r .few)) (λ c. let s : Start = search in omega (arith, at (c .before) .room, s .pre)) returns
+    (λ c. search needs) (λ c. search needs) loop-again returns-2)

@@ -6,15 +6,12 @@ use borrow.Author.Needs.{needs}
 use Rattle.two.proofs.shape.plan_number.Statement.{statement}
 use Rattle.two.proofs.shape.plan_number.Tie as tie
 
-returns : tie.Need-returns
-returns c = sym (sheet-at (c .before .before .args .columns) (c .before .before .args .t .now) (c .before .before .args .row) (c .if1 .taken))
-
-returns-2 : tie.Need-returns-2
-returns-2 c = sym (folder-at (c .before .before .before .args .columns) (c .before .before .before .args .t .now) (c .before .before .before .args .row) (c .before .if1 .left))
-
 pub plan-number-spec : {M : Type 1} → statement M
 plan-number-spec =
     tie.close
     (tie.spec
     (λ c. search needs) (λ c. let h = c .pre .1 in omega arith) (λ c. let h = c .pre .1 in omega arith) (λ c. omega (arith, c .pre .0))
-    (λ c. search needs) (λ c. search needs) (λ c. search needs) returns (λ c. search needs) (λ c. search needs) (λ c. search needs) returns-2)
+    (λ c. search needs) (λ c. search needs) (λ c. search needs)
+    (λ c. let s : tie.Start = search in sym (sheet-at (s .args .columns) (s .args .t .now) (s .args .row) (c .if1 .taken)))
+    (λ c. search needs) (λ c. search needs) (λ c. search needs)
+    (λ c. let s : tie.Start = search in sym (folder-at (s .args .columns) (s .args .t .now) (s .args .row) (c .before .if1 .left))))

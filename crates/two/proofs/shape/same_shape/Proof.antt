@@ -7,73 +7,90 @@ use Rattle.vector.proofs.Tests.{not-so}
 use Rattle.order.proofs.RowPlaces.{begins}
 use Rattle.laws.proofs.FormedRows.{cancel}
 use lib.ListN.{getD}
+use mathlib.Core.List.{List}
 use borrow.Author.Needs.{needs}
 use native.Mathlib.Omega.{arith}
-use Prim.Native.Nat.{_-_, _*_, _≤_}
+use Prim.Native.Nat.{ℕ, _-_, _*_, _≤_}
 use mathlib.Core.Path.{_≡_, sym, ap, _∙_}
 use Rattle.two.proofs.shape.same_shape.Statement.{statement}
 use Rattle.two.proofs.shape.same_shape.Tie as tie
 
+-- both pass the check, have as many rows, and are of one shape exactly where the rows from one on are
+pub record Alike (w : ℕ) (s t : List ℕ) (row : ℕ) : Type 0 where
+  pub source : Checked w s
+  pub target : Checked w t
+  pub rows : getD s 2 0 ≡ getD t 2 0
+  pub on : shaped (tableOf w s .tree) (tableOf w t .tree) ≡ samePlanOn w s t row
+
 abbrev Inv-loop : tie.InvT-loop
-Inv-loop source target columns rows row₀ row = (row ≤ rows) × Checked columns source × Checked columns target × (getD source 2 0 ≡ getD target 2 0) × (shaped (tableOf columns source .tree) (tableOf columns target .tree) ≡ samePlanOn columns source target row)
+Inv-loop source target columns rows row₀ row = (row ≤ rows) × Alike columns source target row
 
 abbrev μ-loop : tie.MeasureT-loop
 μ-loop source target columns rows row₀ row = rows - row
 
-shared-slice-read-rows : tie.Need-shared-slice-read-rows Inv-loop μ-loop
-shared-slice-read-rows c = let start = c .before .before .before in omega (arith, check-facts (start .args .columns) (start .args .source .now) (start .pre .0) .head .long)
+abbrev Start : Type 0
+Start = tie.Start Inv-loop μ-loop
+
+abbrev Here : Type 0
+Here = tie.At-loop Inv-loop μ-loop
+
+source : (c : Start) → Checked (c .args .columns) (c .args .source .now)
+source c = check-facts _ _ (c .pre .0)
+
+target : (c : Start) → Checked (c .args .columns) (c .args .target .now)
+target c = check-facts _ _ (c .pre .1)
 
 returns : tie.Need-returns Inv-loop μ-loop
 returns c =
-    let start = c .before .before .before .before in
-    let s = start .args .source .now in
-    let t = start .args .target .now in
-    let a = check-facts (start .args .columns) s (start .pre .0) in
-    let d = check-facts (start .args .columns) t (start .pre .1) in
-    sym (not-so _ (λ e. c .if1 .taken (omega (arith, a .head .long, d .head .long, ap (λ k. k * wide (start .args .columns)) (same-rows (start .args .columns) s t a d e)))))
+    let s : Start = search in
+    let a = source s in
+    let b = target s in
+    sym (not-so _ (λ e. c .if1 .taken (omega (arith, a .head .long, b .head .long, ap (λ k. k * wide (s .args .columns)) (same-rows _ _ _ a b e)))))
 
 loop-holds : tie.Need-loop-holds Inv-loop μ-loop
 loop-holds c =
-    let start = c .before .before .before .before in
-    let s = start .args .source .now in
-    let t = start .args .target .now in
-    let a = check-facts (start .args .columns) s (start .pre .0) in
-    let d = check-facts (start .args .columns) t (start .pre .1) in
-    (search needs, a, d, cancel (wide (start .args .columns)) (omega arith) (getD s 2 0) (getD t 2 0) (omega (arith, a .head .long, d .head .long, c .if1 .left)), shaped-all (start .args .columns) s t a d)
+    let s : Start = search in
+    let a = source s in
+    let b = target s in
+    let rows = cancel (wide (s .args .columns)) (omega arith) (getD (s .args .source .now) 2 0) (getD (s .args .target .now) 2 0) (omega (arith, a .head .long, b .head .long, c .if1 .left)) in
+    (search needs, record { source = a; target = b; rows = rows; on = shaped-all _ _ _ a b })
 
+-- at a row, its plan's number is read from both
 plan-number-requires : tie.Need-plan-number-requires Inv-loop μ-loop
-plan-number-requires c κs = let start = c .before .before .before .before .before .before in (omega (arith, begins (start .args .columns) (start .args .source .now) (c .before .loop .row) (start .pre .2) (start .pre .0) (omega arith) .room), start .pre .2)
+plan-number-requires c κs =
+    let s : Start = search in
+    let here : Here = search in
+    (omega (arith, begins _ (s .args .source .now) (here .loop .row) (s .pre .2) (s .pre .0) (omega arith) .room), s .pre .2)
 
 plan-number-requires-2 : tie.Need-plan-number-requires-2 Inv-loop μ-loop
-plan-number-requires-2 c κs = let start = c .before .before .before .before .before .before .before in (omega (arith, begins (start .args .columns) (start .args .target .now) (c .before .before .loop .row) (start .pre .2) (start .pre .1) (omega (arith, c .before .before .loop .inv .3)) .room), start .pre .2)
+plan-number-requires-2 c κs =
+    let s : Start = search in
+    let here : Here = search in
+    (omega (arith, begins _ (s .args .target .now) (here .loop .row) (s .pre .2) (s .pre .1) (omega (arith, here .loop .inv .1 .rows)) .room), s .pre .2)
 
 returns-2 : tie.Need-returns-2 Inv-loop μ-loop
 returns-2 c =
-    let here = c .before .before .before .before in
-    let start = here .before .before .before .before .before in
-    let s = start .args .source .now in
-    let t = start .args .target .now in
-    sym (here .loop .inv .4 ∙ same-not (start .args .columns) s t (here .loop .row) (omega arith) (omega (arith, here .loop .inv .3)) (λ e. c .if2 .taken (c .before .before .plan-number .ensures ∙ e ∙ sym (c .before .plan-number2 .ensures))))
+    let here : Here = search in
+    let k = here .loop .inv .1 in
+    sym (k .on ∙ same-not _ _ _ _ (omega arith) (omega (arith, k .rows)) (λ e. c .if2 .taken (c .before .before .plan-number .ensures ∙ e ∙ sym (c .before .plan-number2 .ensures))))
 
 loop-again : tie.Need-loop-again Inv-loop μ-loop
 loop-again c =
-    let here = c .before .before .before .before in
-    let start = here .before .before .before .before .before in
-    let s = start .args .source .now in
-    let t = start .args .target .now in
-    (search needs, here .loop .inv .1, here .loop .inv .2, here .loop .inv .3, here .loop .inv .4 ∙ same-next (start .args .columns) s t (here .loop .row) (omega arith) (omega (arith, here .loop .inv .3)) (sym (c .before .before .plan-number .ensures) ∙ c .if2 .left ∙ c .before .plan-number2 .ensures))
+    let here : Here = search in
+    let k = here .loop .inv .1 in
+    let e = sym (c .before .before .plan-number .ensures) ∙ c .if2 .left ∙ c .before .plan-number2 .ensures in
+    (search needs, record { source = k .source; target = k .target; rows = k .rows; on = k .on ∙ same-next _ _ _ _ (omega arith) (omega (arith, k .rows)) e })
 
 returns-3 : tie.Need-returns-3 Inv-loop μ-loop
 returns-3 c =
-    let here = c .before in
-    let start = here .before .before .before .before .before in
-    let s = start .args .source .now in
-    let t = start .args .target .now in
-    sym (here .loop .inv .4 ∙ same-end (start .args .columns) s t (here .loop .row) (omega arith) (omega (arith, here .loop .inv .3)))
+    let s : Start = search in
+    let here : Here = search in
+    let k = here .loop .inv .1 in
+    sym (k .on ∙ same-end _ (s .args .source .now) (s .args .target .now) (here .loop .row) (omega arith) (omega (arith, k .rows)))
 
 pub same-shape-spec : {M : Type 1} → statement M
 same-shape-spec =
     tie.close
     (tie.spec
-    Inv-loop μ-loop shared-slice-read-rows (λ c. omega (arith, c .shared-slice-known3 .given 2)) returns loop-holds plan-number-requires
-    plan-number-requires-2 returns-2 (λ c. search needs) (λ c. search needs) loop-again returns-3)
+    Inv-loop μ-loop (λ c. omega (arith, source (search) .head .long)) (λ c. omega (arith, c .shared-slice-known3 .given 2)) returns loop-holds
+    plan-number-requires plan-number-requires-2 returns-2 (λ c. search needs) (λ c. search needs) loop-again returns-3)

@@ -11,7 +11,7 @@ use Rattle.paper.specs.Tree.{Forest, later}
 use Rattle.paper.specs.Words.{tableOf}
 use Rattle.paper.specs.Refusals.{first, when, tens, unless}
 use Rattle.paper.specs.Check.{checkOf}
-use Rattle.paper.specs.Calls.{Answered, Changed, Passed, eventRefused, twoRefused, passRefused, settleRefused, beneathRefused, standingRefused, passOf, settleOf, standingOf, beneathOf}
+use Rattle.paper.specs.Calls.{Answered, Changed, Passed, eventRefused, unlike, twoRefused, passRefused, settleRefused, beneathRefused, standingRefused, passOf, settleOf, standingOf, beneathOf}
 use Rattle.paper.specs.Widths.{widthOf, tableAny, checkAny, widenRefused, twoWidths, passAny, settleAny, beneathAny, standingAny}
 use Rattle.laws.proofs.Calls.{event-number, pass-number, settle-number}
 use Rattle.laws.proofs.Refusals.{when-false}
@@ -57,15 +57,17 @@ module _ (n : ℕ) (least : 6 ≤ n) (most : n ≤ 7) where
 
   -- two tables whose floors name no later counts
   two-not : (w : ℕ) (s t : List ℕ) (row : ℕ) → later (tableOf w t .clock) (tableOf w s .tree) ≡ false → later (tableOf w s .clock) (tableOf w t .tree) ≡ false → twoRefused w s t row ≡ n → ⊥
-  unfolding twoRefused
+  unfolding twoRefused unlike
   two-not w s t row six seven =
       first-not _ _ (check-not w s)
       (first-not _ _ (tens-not (checkOf w t))
+      (first-not _ _
       (first-not _ _ (when-not _ 4 (λ e. omega arith))
       (first-not _ _ (when-not _ 5 (λ e. omega arith))
       (first-not _ _ (λ e. omega (arith, least, sym e ∙ when-false _ 6 six))
       (first-not _ _ (λ e. omega (arith, least, sym e ∙ when-false _ 7 seven))
-      (first-not _ _ (when-not _ 8 (λ e. omega arith)) end-not))))))
+      (first-not _ _ (when-not _ 8 (λ e. omega arith)) end-not)))))
+      end-not))
 
   module _ (p : Forest (Unit {0}) (Unit {0})) (s : State) (k : Kept p s) where
     -- so the tables of any two devices that are not refused before

@@ -1,6 +1,6 @@
 -- What the plan says of every table of a run: which rows are sheets, how many rows there are; and that of two devices'
 -- tables nothing is refused but a row that is not there.
-use Prim.Native.Nat.{ℕ, zero, suc, _<_, _+_}
+use Prim.Native.Nat.{ℕ, _<_, _+_}
 use mathlib.Core.Path.{_≡_, refl, sym, ap, _∙_, subst}
 use mathlib.Core.Bool.{Bool, true, false, not}
 use mathlib.Core.List.{List, [], _∷_}
@@ -17,7 +17,7 @@ use Rattle.laws.proofs.Widths.{pass-through, pass-stopped}
 use Rattle.paper.specs.Refusals.{first, when, tens}
 use Rattle.paper.specs.Calls.{isFolder, unlike, twoRefused, passRefused, Passed}
 use Rattle.laws.proofs.Calls.{pass-number}
-use Rattle.laws.proofs.Refusals.{first-next, when-false, unless-so}
+use Rattle.laws.proofs.Refusals.{first-next, when-false, unless-so, first-one}
 use Rattle.laws.proofs.Forests.{shape, shape-size, shape-shaped}
 use Rattle.paper.specs.Devices.{devices}
 use Rattle.run.specs.Run.{State, Makes}
@@ -56,11 +56,6 @@ module _ (columns : ℕ → ℕ) (plan : List ℕ) (lent : ℕ → List ℕ) (ma
   kept-size d l =
       sym (shape-size (tableAny (s .tables d) .tree)) ∙ ap size (k .shapes d l) ∙ shape-size (planRows devices plan)
       ∙ sym (plan-length (planRows devices plan)) ∙ ap length (rows-planned columns plan lent makes)
-
-  first-one : (n : ℕ) → first (n ∷ []) ≡ n
-  unfolding first
-  first-one zero = refl
-  first-one (suc n) = refl
 
   module _ (a b row : ℕ) (la : a < devices) (lb : b < devices) (ne : a ≡ b → ⊥) where
     -- of two devices' tables nothing is refused before the widths, and then 19 where they differ

@@ -16,12 +16,12 @@ use Rattle.paper.specs.Words.{wide, Table, tableOf, written, treeWords}
 use Rattle.paper.specs.Calls.{passed, done, twoRefused, pairAt, passRefused, passDone, passOf}
 use Rattle.laws.proofs.Refusals.{first-both}
 use Rattle.laws.proofs.Forests.{shape, shaped-shape, zip-left, zip-right, mapped-size, mapped-subtree, subtree-fits}
-use Rattle.laws.proofs.GoodTrees.{walk-shape}
+use Rattle.laws.proofs.GoodTrees.{walk-shape, walk-size}
 use Rattle.laws.proofs.Calls.{pass-accepted, pass-done}
 use Rattle.two.proofs.TwoTables.{Paired, paired}
 use Rattle.walk.specs.Parts.{Single, one-sheet, one-folder, Fit, RowParts}
 use Rattle.walk.specs.Parts as parts
-use Rattle.walk.proofs.SiblingsWalked.{looked-size, walk-size}
+use Rattle.walk.proofs.SiblingsWalked.{looked-size}
 use Rattle.walk.proofs.ChildrenWalked.{fine-walk}
 use Rattle.mend.proofs.PutInPlace.{There, Changed, there, good, good-there, fine-there, narrow-above, part-there, room-there, put-changed}
 

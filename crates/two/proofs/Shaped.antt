@@ -15,7 +15,7 @@ use Rattle.laws.proofs.Bools.{and-both}
 use Rattle.laws.proofs.FormedRows.{SheetRow, FolderRow, Formed, ordered-formed}
 use Rattle.laws.proofs.Tables.{Checked}
 use Rattle.two.specs.PlanNumber.{planNumber}
-use Rattle.vector.proofs.Tests.{not-so}
+use Rattle.laws.proofs.Bools.{not-so}
 use Rattle.two.proofs.Listed.{listed, length-listed, word-at, rowsOn, rows-next, rows-end, rows-count, rows-all}
 
 pub sheet-number : (n : ℕ) (r : List ℕ) → SheetRow n r → planNumber r ≡ 0

@@ -26,7 +26,8 @@ use Rattle.leaf.proofs.TreeSteps.{sheet-number, sheet-step, over-rows, over-ste
 use Rattle.walk.specs.Parts.{Single, Fit, RowParts, Passed}
 use Rattle.vector.proofs.Parts.{tail-part}
 use Rattle.walk.proofs.LentLists.{put-tail}
-use Rattle.walk.proofs.SiblingsWalked.{tree-plus, walk-plus, answers-plus, looked-plus, walk-size}
+use Rattle.walk.proofs.SiblingsWalked.{tree-plus, walk-plus, answers-plus, looked-plus}
+use Rattle.laws.proofs.GoodTrees.{walk-size}
 use Rattle.walk.proofs.PartsCut.{no-rows, Leaf, leaf, Below, below}
 use Rattle.walk.proofs.ChildrenWalked.{fine-walk, fine-siblings, fine-mended}
 

@@ -13,7 +13,6 @@ use Rattle.paper.specs.Walk.{Pair, left, right, raised, silent, ruleAt, ruled, 
 use Rattle.paper.specs.Order.{wordsOf}
 use Rattle.paper.specs.Words.{sheetWords, folderRow, rowsOf, treeWords}
 use Rattle.paper.specs.Good.{Good}
-use Rattle.laws.proofs.Forests.{mapped-size}
 
 -- three parts
 pub plus-plus : (p q r : Pair) → plus (plus p q) r ≡ plus p (plus q r)
@@ -83,16 +82,3 @@ module _ (w : ℕ) where
         go : (o : Bool) {t u m n : ℕ} → t ≤ m → u ≤ n → suc (cond o 0 t + u) ≤ suc (m + n)
         go true h l = omega arith
         go false h l = omega arith
-
-    -- the rows stay
-    pub walk-size : (p : Pair) (ua ub : Vec) → size (walk w a b p ua ub) ≡ size p
-    unfolding walk size
-    walk-size end ua ub = refl
-    walk-size (sheet x r) ua ub = ap suc (walk-size r ua ub)
-    walk-size (folder y k r) ua ub =
-        go (over w a b ua ub y k) (raised b (y .b) (fullLeast a ua (y .a) (left k))) (y .b) (right k)
-        (walk w a b k (greatest ua (y .a)) (greatest ub (y .b))) (walk w a b r ua ub) (mapped-size _ _ k) (walk-size k (greatest ua (y .a)) (greatest ub (y .b))) (walk-size r ua ub)
-      where
-        go : (o : Bool) (f g : Vec) (l m z : Tree) {i j : ℕ} → size l ≡ i → size m ≡ i → size z ≡ j → size (cond o (folder f l z) (folder g m z)) ≡ suc (i + j)
-        go true f g l m z p q e = omega (arith, p, e)
-        go false f g l m z p q e = omega (arith, q, e)

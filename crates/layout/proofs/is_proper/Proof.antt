@@ -1,5 +1,5 @@
 -- The device decides, then the count.
-use Rattle.vector.proofs.Tests.{not-so}
+use Rattle.laws.proofs.Bools.{not-so}
 use borrow.Author.Tests.{lt-ltb, ltb-true}
 use Rattle.paper.specs.Check.{proper}
 use lib.Dec.{ltb}

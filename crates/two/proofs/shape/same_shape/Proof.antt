@@ -3,7 +3,7 @@ use Rattle.paper.specs.Tree.{shaped}
 use Rattle.paper.specs.Words.{wide, tableOf}
 use Rattle.laws.proofs.Tables.{Checked, check-facts}
 use Rattle.two.proofs.Shaped.{samePlanOn, shaped-all, same-rows, same-next, same-not, same-end}
-use Rattle.vector.proofs.Tests.{not-so}
+use Rattle.laws.proofs.Bools.{not-so}
 use Rattle.order.proofs.RowPlaces.{begins}
 use Rattle.laws.proofs.FormedRows.{cancel}
 use lib.ListN.{getD}

@@ -1,13 +1,13 @@
--- The three events and the three settlings, at the words, by computation: of each, the number and count returned, the
+-- The three events, the three settlings and a widening, at the words, by computation: of each, the number and count returned, the
 -- clock afterwards, the row's first sixteen words (its floor is the last eight of them), and the table's check.
-use Prim.Native.Nat.{ℕ}
+use Prim.Native.Nat.{ℕ, _*_}
 use mathlib.Core.Path.{_≡_, refl}
 use mathlib.Core.List.{List, [], _∷_, _++_}
-use lib.ListN.{take}
-use Rattle.paper.specs.Words.{tableOf}
+use lib.ListN.{take, replicate}
+use Rattle.paper.specs.Words.{wide, tableOf}
 use Rattle.paper.specs.Check.{checkOf}
 use Rattle.paper.specs.Calls.{Changed, rowAt}
-use Rattle.paper.specs.Widths.{eventAny, settleAny}
+use Rattle.paper.specs.Widths.{eventAny, settleAny, widenOf}
 use Rattle.paper.proofs.Play.{Step, event, pass, Desk, narrow, table, play, played}
 
 record Outcome : Type 0 where
@@ -87,3 +87,18 @@ meant =
 acts : outcomes ≡ meant
 unfolding outcomes goes-on each-choice meant accepted worked settled seen created removed changed-both target-removed created-both played
 acts = refl
+
+-- A WIDENING of a table with a created sheet: its number and count, the check of what is written, and the words of the sheet's row
+record Wider : Type 0 where
+  number : ℕ
+  count : ℕ
+  check : ℕ
+  row : List ℕ
+
+wider : Changed → Wider
+wider o = record { number = o .number; count = o .count; check = checkOf 16 (o .table); row = rowAt 16 (o .table) 2 }
+
+widening : wider (widenOf (table (play narrow created) 0) (replicate (6 * wide 16) 9))
+    ≡ record { number = 0; count = 5; check = 0; row = 1 ∷ 1 ∷ 0 ∷ 1 ∷ 0 ∷ 1 ∷ 700 ∷ replicate 65 0 }
+unfolding wider created played
+widening = refl

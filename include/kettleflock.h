@@ -15,6 +15,10 @@
  *   4. Bring a sheet's content before you save the table that says it came. A pass doesn't say copy twice.
  * examples/hazard.c shows what is lost otherwise.
  *
+ * A sheet removed twice. Where two devices remove a sheet and neither has heard of the other, a third that changed it and
+ * settled against one of the removals can bring it back to both: the other removal is undone with KF_SAID_COPY, and
+ * no conflict is said. README.md has the run.
+ *
  * Lent memory. Every buffer is a pointer to 32-bit words followed by its length in words. The pointer isn't
  * NULL, even where the length is 0; it is aligned as a uint32_t and points to that many words. A buffer that is written
  * overlaps no other of the call. Any words at all may be lent: what isn't a sound table is refused.

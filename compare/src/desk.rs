@@ -1,8 +1,10 @@
 //! Several devices at work: a table for each, and the history of them all.
 
+use std::ops::Range;
+
 use second::history::{Act, Choice};
 use second::layout::{head, Kind, Width};
-use second::trial::look::{is_folder, kind, rows, size, width};
+use second::trial::look::{is_folder, kind, known, rows, size, stamp, width};
 use second::trial::{plans, two_of, Random};
 
 use crate::call::{Call, Lent, Outcome};
@@ -220,6 +222,7 @@ impl Desk<'_> {
             format!("a pass is refused with {}", outcome.answer.number)
         })?;
         let rows = start..start + size;
+        self.count_removals(&lent, &outcome.lent.target, rows.clone());
         let rulings = self.record.history.pass(source, target, rows);
         for (row, &answer) in (start..).zip(&outcome.lent.answers) {
             let ruling = rulings.get(&row).map(|ruling| ruling.answer());
@@ -233,6 +236,20 @@ impl Desk<'_> {
         }
         self.tables[target] = outcome.lent.target;
         self.agree_everywhere(target)
+    }
+
+    /// Counts the target's removals to which a pass brought another.
+    fn count_removals(&self, before: &Lent, after: &[u32], rows: Range<usize>) {
+        let Lent { source, target, .. } = before;
+        for row in rows {
+            let (device, count) = stamp(source, row);
+            let removed = [source, target].map(|table| Kind::read(kind(table, row)));
+            let is_news = count > known(target, row).count(device);
+            if removed == [Some(Kind::Removed); 2] && is_news {
+                let taken = stamp(after, row) != stamp(target, row);
+                self.judge.count_removal(width(target), taken);
+            }
+        }
     }
 
     fn show(&mut self, pair: Pair) -> Result<(), Trouble> {

@@ -19,6 +19,8 @@ pub struct Tally {
     pub folders: [u64; 2],
     /// By side, of the calls for the row that stands that succeeded.
     pub sides: [u64; 3],
+    /// Stayed and gave way: the target's removals that a pass of a run brought one they hadn't heard of.
+    pub removals: [u64; 2],
 }
 
 impl Tally {
@@ -85,6 +87,11 @@ impl Judge {
     /// What has been seen so far at a width.
     pub fn tally(&self, width: Width) -> Tally {
         self.tallies.borrow()[width as usize].clone()
+    }
+
+    /// Counts a removal to which a pass of a run brought another, and whether its row took that.
+    pub fn count_removal(&self, width: Width, taken: bool) {
+        self.tallies.borrow_mut()[width as usize].removals[usize::from(taken)] += 1;
     }
 
     /// How many calls were made.

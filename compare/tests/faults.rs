@@ -6,8 +6,8 @@ use compare::lents;
 use compare::program::{Answer, Program, SECOND};
 use compare::run::{Run, Step};
 use compare::shrink;
-use second::layout::{head, Time, Width, MOST_LEVELS};
-use second::trial::look::{counts, is_folder, rows, size, width};
+use second::layout::{head, word, Time, Width, MOST_LEVELS};
+use second::trial::look::{counts, is_folder, kind, mend, place, rows, size, width};
 use second::trial::Random;
 
 /// The smallest failing case of a program, among so many made-up ones: sound, damaged, and plans.
@@ -112,6 +112,25 @@ fn newest_never_falls() {
         answer
     };
     found(Program { pass, ..SECOND }, Call::Pass, 3);
+}
+
+#[test]
+fn removals_never_give_way() {
+    let pass = |source: &[u32], target: &mut [u32], row: u32, answers: &mut [u32]| {
+        let before = target.to_vec();
+        let answer = (SECOND.pass)(source, target, row, answers);
+        if answer.number == 0 {
+            for row in 0..rows(target) {
+                if [source, &before].map(|table| kind(table, row)) == [2; 2] {
+                    let stamp = place(target, row, word::STAMP);
+                    target[stamp..stamp + 2].copy_from_slice(&before[stamp..stamp + 2]);
+                }
+            }
+            mend(target);
+        }
+        answer
+    };
+    found(Program { pass, ..SECOND }, Call::Pass, 2);
 }
 
 #[test]

@@ -76,7 +76,7 @@ pub enum Choice {
 pub enum Ruling {
     /// The target's sheet stays.
     Keep,
-    /// Also called keep: the target's sheet, never used, takes the source's removal.
+    /// Also called keep: the target's sheet, never used or removed, takes the source's removal.
     KeepRemoval,
     /// The target takes the source's live sheet.
     Copy,
@@ -241,6 +241,9 @@ impl History {
             (State::Live { .. }, State::Never) => Ruling::Copy,
             (State::Removed { .. }, State::Never) => Ruling::KeepRemoval,
             // 3
+            (State::Removed { .. }, State::Removed { last }) if a.has_taken(last) => {
+                Ruling::KeepRemoval
+            }
             (State::Removed { .. }, State::Removed { .. }) => Ruling::Keep,
             // 4
             (State::Live { .. }, State::Live { last, .. }) => {

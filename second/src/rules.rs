@@ -9,7 +9,7 @@ use crate::times;
 pub enum Ruling {
     /// Nothing but times changes.
     Keep,
-    /// The answer is keep, but the target's row, never used so far, takes the source's removal.
+    /// The answer is keep, but the target's row, never used or removed, takes the source's removal.
     KeepRemoval,
     /// The target takes the source's live sheet.
     Copy,
@@ -46,7 +46,13 @@ pub fn ruling(source: &Table, target: &Table, row: usize) -> Ruling {
     match (a.kind, b.kind) {
         (Kind::Live, Kind::Never) => Ruling::Copy,
         (Kind::Removed, Kind::Never) => Ruling::KeepRemoval,
-        (Kind::Removed, Kind::Removed) => Ruling::Keep,
+        (Kind::Removed, Kind::Removed) => {
+            if a_known.covers(b.stamp) {
+                Ruling::KeepRemoval
+            } else {
+                Ruling::Keep
+            }
+        }
         (Kind::Live, Kind::Live) => {
             if a_known.covers(b.stamp) {
                 Ruling::Copy

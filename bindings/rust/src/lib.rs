@@ -62,6 +62,37 @@
 //! # Ok::<(), Refusal>(())
 //! ```
 //!
+//! # A sheet removed twice can come back
+//!
+//! Where two devices remove a sheet and neither has heard of the other, a third that changed it and settled against one of
+//! the removals can bring it back to both, and no conflict is said of the other removal:
+//!
+//! ```
+//! use kettleflock::{pass, settle, Answer, Choice, Columns, Plan, Refusal, Table};
+//!
+//! let plan = Plan::folder([Plan::sheet()]);
+//! let mut desk = Table::new(Columns::Eight, 0, &plan)?;
+//! let mut tablet = Table::new(Columns::Eight, 1, &plan)?;
+//! let mut laptop = Table::new(Columns::Eight, 2, &plan)?;
+//! desk.create(1, 700)?;
+//! assert_eq!(pass(&desk, &mut tablet, 0)?.answer(1), Some(Answer::Copy));
+//! assert_eq!(pass(&desk, &mut laptop, 0)?.answer(1), Some(Answer::Copy));
+//! tablet.remove(1)?;
+//! desk.remove(1)?;
+//! laptop.change(1, 701)?;
+//! assert_eq!(pass(&tablet, &mut laptop, 0)?.answer(1), Some(Answer::Conflict));
+//! settle(&tablet, &mut laptop, 1, Choice::Own)?;
+//! assert_eq!(pass(&laptop, &mut desk, 0)?.answer(1), Some(Answer::Conflict));
+//!
+//! // By way of the tablet, which keeps its own removal, there is none.
+//! assert_eq!(pass(&desk, &mut tablet, 0)?.answer(1), Some(Answer::Keep));
+//! assert_eq!(pass(&laptop, &mut tablet, 0)?.answer(1), Some(Answer::Copy));
+//! assert_eq!(pass(&tablet, &mut desk, 0)?.answer(1), Some(Answer::Copy));
+//! # Ok::<(), Refusal>(())
+//! ```
+//!
+//! # Answers are looked at
+//!
 //! An answer that is dropped is warned of:
 //!
 //! ```compile_fail

@@ -161,7 +161,7 @@ impl<const C: usize, const W: usize> Walk<C, W> {
             _ if covers(&known_b, a, 2) => (0, false),
             (LIVE, NEVER) => (1, true),
             (REMOVED, NEVER) => (0, true),
-            (REMOVED, REMOVED) => (0, false),
+            (REMOVED, REMOVED) => (0, covers(&known_a, b, 2)),
             (LIVE, LIVE) if covers(&known_a, b, 2) => (1, true),
             (LIVE, REMOVED) if covers(&known_a, b, 2) || !covers(&known_b, a, 4) => (1, true),
             (REMOVED, LIVE) if !covers(&known_a, b, 4) => (0, false),

@@ -1,7 +1,8 @@
-// The limits, the paper's marked sheets, the showings, the settlings and the two widths, run and printed.
+// The limits, the paper's marked sheets, the showings, the settlings, removals that meet and the two widths, run and printed.
 mod limits;
 mod line;
 mod marked;
+mod removals;
 mod settlings;
 mod showings;
 mod step;
@@ -33,6 +34,8 @@ fn main() {
     settled(NEW, CHANGE, 702, 3);
     settled(REMOVED, REMOVE, 0, 3);
     settlings::refused();
+    removals::held();
+    removals::back();
     widths::made();
     widths::widened();
     widths::apart();

@@ -72,7 +72,7 @@ rule-agree live live p q e₁ e₂ e₃ e₄ = rw (e₁, e₂)
 rule-agree live removed p q e₁ e₂ e₃ e₄ = rw (e₁, e₂, e₃)
 rule-agree removed never p q e₁ e₂ e₃ e₄ = rw e₁
 rule-agree removed live p q e₁ e₂ e₃ e₄ = rw (e₁, e₂, e₄)
-rule-agree removed removed p q e₁ e₂ e₃ e₄ = rw e₁
+rule-agree removed removed p q e₁ e₂ e₃ e₄ = rw (e₁, e₂)
 
 -- A RULING is one for both
 pub rulings : {count : ℕ → ℕ} {log : Set} {a b : ℕ} {va vb : Cell Vec} {ha hb : Cell Set} → Fits count log a va ha → Fits count log b vb hb → ruling (vectors .knows) va vb ≡ ruling (sets .knows) ha hb

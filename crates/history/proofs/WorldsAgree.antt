@@ -6,7 +6,7 @@ use mathlib.Core.Bool.{Bool, true, false, _&&_, cond, false≢true}
 use native.Mathlib.Omega.{arith}
 use lib.Dec.{eqb}
 use borrow.Author.Tests.{eqb-true, eq-eqb}
-use Rattle.paper.specs.declared.Ruling.the-variants.{KeepOwn, Conflict}
+use Rattle.paper.specs.declared.Ruling.the-variants.{KeepOwn, KeepTheirs, Conflict}
 use Rattle.paper.specs.declared.Stamp.{Stamp}
 use Rattle.paper.specs.Columns.{Vec}
 use Rattle.paper.specs.Rules.{Kind, never, live, removed, Row, Heard, news, rule, Cell, ruling}
@@ -113,6 +113,10 @@ opposed ka kb p e = go ka kb (p .stampA) e
     clash : {X : Type 0} → KeepOwn ≡ Conflict → X
     clash e = let z : _≡_ {A = ℕ} 0 1 = cc in absurd (omega arith)
 
+    both : {X : Type 0} (t : Bool) → cond t KeepTheirs KeepOwn ≡ Conflict → X
+    both true e = let z : _≡_ {A = ℕ} 0 1 = cc in absurd (omega arith)
+    both false e = clash e
+
     go : (ka kb : Kind) (t : Bool) → cond t KeepOwn (news ka kb p) ≡ Conflict → Opposed ka kb
     go never kb true e = clash e
     go never kb false e = clash e
@@ -124,7 +128,7 @@ opposed ka kb p e = go ka kb (p .stampA) e
     go removed never false e = let z : _≡_ {A = ℕ} 0 1 = cc in absurd (omega arith)
     go removed live t e = tt
     go removed removed true e = clash e
-    go removed removed false e = clash e
+    go removed removed false e = both (p .stampB) e
 
 -- so the birth of a new row is one that one of them has
 pub new-born : (P : Stamp → Type 0) (ka kb : Kind) (a b : Row) → Opposed ka kb → Born ka (P (a .birth)) → Born kb (P (b .birth)) → P (birthOf kb a b)

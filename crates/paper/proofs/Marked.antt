@@ -144,8 +144,24 @@ by-way =
     does (event 0 2 1 700) (does (pass 0 2 0) (does (event 0 2 3 0) (does (pass 0 1 0)
     (passes 1 2 0 (list (4 ∷ 4 ∷ 2 ∷ 0 ∷ 0 ∷ [])) done))))
 
+-- two removals of one sheet. One has heard of the other when it is made: the later one stands, and who has changed the sheet that
+-- it removed hears of it as a conflict. Neither has heard of the other: each stands on its side, and who has settled with
+-- the one brings the sheet back there
+removed-again : Play
+removed-again =
+    does (event 0 2 1 700) (does (pass 0 1 0) (does (event 0 2 3 0) (does (event 1 2 3 0) (does (pass 1 0 0)
+    (does (event 0 2 1 710) (does (pass 0 2 0) (does (event 0 2 3 0) (passes 0 1 0 (list (4 ∷ 4 ∷ 0 ∷ 0 ∷ 0 ∷ []))
+    (does (event 2 2 2 711) (passes 2 1 0 (list (4 ∷ 4 ∷ 3 ∷ 0 ∷ 0 ∷ [])) done))))))))))
+
+removed-apart : Play
+removed-apart =
+    does (event 0 2 1 700) (does (pass 0 1 0) (does (pass 0 2 0) (does (event 1 2 3 0) (does (event 0 2 3 0) (does (event 2 2 2 712)
+    (passes 1 2 0 (list (4 ∷ 4 ∷ 3 ∷ 0 ∷ 0 ∷ [])) (does (settle 1 2 2 2 0)
+    (passes 0 1 0 (list (4 ∷ 4 ∷ 0 ∷ 0 ∷ 0 ∷ [])) (passes 2 1 0 (list (4 ∷ 4 ∷ 1 ∷ 0 ∷ 0 ∷ []))
+    (passes 1 0 0 (list (4 ∷ 4 ∷ 1 ∷ 0 ∷ 0 ∷ [])) done))))))))))
+
 plays : Play
-plays = aside (A-then (aside I (aside J B-to-E))) (aside F-and-G (aside H (aside K by-way)))
+plays = aside (A-then (aside I (aside J B-to-E))) (aside F-and-G (aside H (aside K (aside by-way (aside removed-again removed-apart)))))
 
 -- those that are played with sixteen columns too, where the third device has a column of a narrow table
 wide-plays : Play
@@ -159,5 +175,5 @@ wide-three = 15 ∷ 8 ∷ 3 ∷ []
 
 -- A TO K
 marked : said 8 narrow-three (fresh 8 narrow-three) plays ++ said 16 wide-three (fresh 16 wide-three) wide-plays ≡ meant plays ++ meant wide-plays
-unfolding root-level seen said meant list count holds says-A says-G says-K I J B-to-E A-then F-and-G H K by-way plays wide-plays narrow-three wide-three played
+unfolding root-level seen said meant list count holds says-A says-G says-K I J B-to-E A-then F-and-G H K by-way removed-again removed-apart plays wide-plays narrow-three wide-three played
 marked = refl

@@ -125,8 +125,21 @@ by-way : Play
 by-way =
     does (event 0 2 1 1) (does (whole 0 2) (does (event 0 2 3 0) (does (whole 0 1) (tells 1 2 (2 ∷ 0 ∷ 0 ∷ []) done))))
 
+-- a sheet removed twice, the later removal by one that had heard of the other; and by two that had not
+removed-again : Play
+removed-again =
+    does (event 0 2 1 700) (does (whole 0 1) (does (event 0 2 3 0) (does (event 1 2 3 0) (does (whole 1 0)
+    (does (event 0 2 1 710) (does (whole 0 2) (does (event 0 2 3 0) (tells 0 1 (0 ∷ 0 ∷ 0 ∷ []) (does (whole 0 1)
+    (does (event 2 2 2 711) (tells 2 1 (3 ∷ 0 ∷ 0 ∷ []) done)))))))))))
+
+removed-apart : Play
+removed-apart =
+    does (event 0 2 1 700) (does (whole 0 1) (does (whole 0 2) (does (event 1 2 3 0) (does (event 0 2 3 0) (does (event 2 2 2 712)
+    (tells 1 2 (3 ∷ 0 ∷ 0 ∷ []) (does (settle 1 2 2 2 0) (tells 0 1 (0 ∷ 0 ∷ 0 ∷ []) (does (whole 0 1)
+    (tells 2 1 (1 ∷ 0 ∷ 0 ∷ []) (does (whole 2 1) (tells 1 0 (1 ∷ 0 ∷ 0 ∷ []) done))))))))))))
+
 plays : Play
-plays = aside A-to-E (aside F-to-G (aside born-twice (aside removed-while-changed (aside K by-way))))
+plays = aside A-to-E (aside F-to-G (aside born-twice (aside removed-while-changed (aside K (aside by-way (aside removed-again removed-apart))))))
 
 -- the history's definitions, opened at once
 unfoldable happened : Unit {0}
@@ -135,5 +148,5 @@ happened = tt
 
 -- A to K, a change after B, C's conflict settled in each way, a removal by way of another device, and tables that are widened
 told-marked : told (begun columns plan lent) plays ≡ meant plays
-unfolding plan columns lent wider whole part number told meant plays A-to-E by-theirs by-new widened F-to-G born-twice removed-while-changed K by-way computed happened
+unfolding plan columns lent wider whole part number told meant plays A-to-E by-theirs by-new widened F-to-G born-twice removed-while-changed K by-way removed-again removed-apart computed happened
 told-marked = refl

@@ -11,7 +11,7 @@ unfolding rule
 returns c = rule-at refl refl (c .if1 .taken) refl refl refl refl
 
 rulings : tie.Need-returns-3 × tie.Need-returns-4 × tie.Need-returns-5 × tie.Need-returns-6
-    × tie.Need-returns-7 × tie.Need-returns-8 × tie.Need-returns-9 × tie.Need-returns-10 × tie.Need-returns-11 × tie.Need-returns-12
+    × tie.Need-returns-7 × tie.Need-returns-8 × tie.Need-returns-9 × tie.Need-returns-10 × tie.Need-returns-11 × tie.Need-returns-12 × tie.Need-returns-13
 unfolding rule news
 rulings = (
   λ c. rule-at (kind-live _ (c .before .before .if2 .taken)) (kind-live _ (c .if4 .taken)) (c .before .before .before .if1 .left) refl (c .before .if3 .left) refl refl,
@@ -25,7 +25,10 @@ rulings = (
   λ c. let e : tie.Else1 = search in
       rule-at (kind-removed _ (c .before .before .before .if7 .taken)) (kind-live _ (c .before .before .if8 .taken)) (e .if1 .left) refl (c .if10 .left) (c .before .if9 .taken) refl,
   λ c. rule-at (kind-removed _ (c .before .before .if7 .taken)) (kind-live _ (c .before .if8 .taken)) (c .before .before .before .before .if1 .left) refl refl (c .if9 .left) refl,
-  λ c. rule-at (kind-removed _ (c .before .before .if7 .taken)) (kind-removed _ (c .if11 .taken)) (c .before .before .before .before .if1 .left) refl refl refl refl,
+  λ c. let e : tie.Else1 = search in
+      rule-at (kind-removed _ (c .before .before .before .if7 .taken)) (kind-removed _ (c .before .if11 .taken)) (e .if1 .left) refl (c .if12 .taken) refl refl,
+  λ c. let e : tie.Else1 = search in
+      rule-at (kind-removed _ (c .before .before .before .if7 .taken)) (kind-removed _ (c .before .if11 .taken)) (e .if1 .left) refl (c .if12 .left) refl refl,
   λ c. rule-at (kind-removed _ (c .before .before .if7 .taken)) (kind-never _ (c .before .if8 .left) (c .if11 .left)) (c .before .before .before .before .if1 .left) refl refl refl refl,
   λ c. rule-at (kind-never _ (c .before .if2 .left) (c .if7 .left)) refl (c .before .before .if1 .left) refl refl refl refl,
 )
@@ -36,4 +39,4 @@ decide-spec =
     (tie.spec
     returns
     (λ c. let q = c .before .before .before .args in copied (kindOf (q .b)) (q .ha .birth) (q .hb .birth) (kind-live _ (c .before .if2 .taken)) (c .before .before .if1 .left) (c .if3 .taken))
-    (rulings .0) (rulings .1) (rulings .2) (rulings .3) (rulings .4) (rulings .5) (rulings .6) (rulings .7) (rulings .8) (rulings .9))
+    (rulings .0) (rulings .1) (rulings .2) (rulings .3) (rulings .4) (rulings .5) (rulings .6) (rulings .7) (rulings .8) (rulings .9) (rulings .10))

@@ -11,6 +11,7 @@ use Rattle.paper.specs.Tree.{above}
 use Rattle.paper.specs.Order.{sizeWord, beneath, after, ordered}
 use Rattle.paper.specs.Words.{wide, floorOf, treeOf, tableOf}
 use Rattle.paper.specs.Check.{checkOf}
+use Rattle.vector.specs.Places.{mostWords}
 use Rattle.laws.proofs.Tables.{check-facts}
 use Rattle.laws.proofs.Order.{Step, ordered-facts, split-part, row-length, row-room, beneath-length, after-length}
 use Rattle.order.proofs.Descents.{above-first, above-under, above-later}
@@ -26,12 +27,12 @@ pub record Down (w : ℕ) (t : List ℕ) (row : ℕ) (u : Vec) (at left : ℕ) :
   pub here : drop at t ≡ siblings ++ others
   pub there : left * wide w < length siblings
   pub gathered : above (tableOf w t .tree) row ≡ greatest u (above (treeOf w siblings) left)
-  pub few : length t ≤ 18504
+  pub few : length t ≤ mostWords
   pub room : at + wide w ≤ length t
   pub some : 1 ≤ getD t (at + 1) 0
   pub fits : at + getD t (at + 1) 0 * wide w ≤ length t
 
-module _ (w : ℕ) (t : List ℕ) (row : ℕ) (few : length t ≤ 18504) where
+module _ (w : ℕ) (t : List ℕ) (row : ℕ) (few : length t ≤ mostWords) where
   -- the first of the siblings
   size-here : (at : ℕ) (s o : List ℕ) → drop at t ≡ s ++ o → 1 < length s → sizeWord s ≡ getD t (at + 1) 0
   size-here at s o h l = sym (List·getD-append s o 0 1 l) ∙ ap (λ x. getD x 1 0) (sym h) ∙ getD-drop at t 1 0

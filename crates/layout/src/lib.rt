@@ -61,7 +61,7 @@ fn birth_of(r: &[u32]) -> Stamp
 
 // Birth and mark are zero.
 fn is_unborn(r: &[u32]) -> bool
-    requires { ⌜ 8 ≤ length (now r) ⌝ }
+    requires { ⌜ floorAt ≤ length (now r) ⌝ }
     ensures { λ b. ⌜ b ≡ (absent (rowOf (now (r .entry)) .birth) && eqb (rowOf (now (r .entry)) .mark) 0) ⌝ }
 {
     if !is_absent(birth_of(r)) {

@@ -7,6 +7,7 @@ use native.Mathlib.Nat.{suc-mul, add-mul, mul-le-mul-right}
 use lib.ListN.{length, getD}
 use Rattle.paper.specs.Words.{wide}
 use Rattle.paper.specs.Check.{checkOf}
+use Rattle.vector.specs.Places.{mostWords}
 use Rattle.laws.proofs.Tables.{check-facts}
 use Rattle.vector.proofs.Parts.{words-small, row-below}
 
@@ -16,7 +17,7 @@ pub record Begins (w : ℕ) (t : List ℕ) (row : ℕ) : Type 0 where
   pub rows : row * wide w < getD t 2 0 * wide w
   pub head : wide w ≤ length t
   pub long : length t ≡ getD t 2 0 * wide w + wide w
-  pub few : length t ≤ 18504
+  pub few : length t ≤ mostWords
   pub low : row < 256
 
 pub begins : (w : ℕ) (t : List ℕ) (row : ℕ) → w ≤ 16 → checkOf w t ≡ 0 → row < getD t 2 0 → Begins w t row

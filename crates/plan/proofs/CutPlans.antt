@@ -17,6 +17,7 @@ use Rattle.paper.specs.Calls.{planned}
 use Rattle.laws.proofs.BlankWords.{length-zeros}
 use Rattle.laws.proofs.Order.{ordered-step, nil-order}
 use Rattle.paper.specs.Devices.{devices}
+use Rattle.vector.specs.Places.{mostWords}
 use Rattle.order.proofs.Descents.{not-below}
 use Rattle.vector.proofs.Parts.{words-small}
 use Rattle.table.proofs.RowsWritten.{head-length, head-words, row-words}
@@ -231,7 +232,7 @@ module _ (w device : ℕ) (p t : List ℕ) where
 
   module _ (row : ℕ) (u : Upto w device p t row) where
     -- there is room for a row more
-    pub room-here : row < length p → ((row + 1) * wide w + wide w ≤ length t) × (length t ≤ 18504)
+    pub room-here : row < length p → ((row + 1) * wide w + wide w ≤ length t) × (length t ≤ mostWords)
     room-here h = (omega (arith, u .room, suc-mul row (wide w), mul-le-mul-right (wide w) h), omega (arith, u .room, words-small (length p) (wide w) (u .few) (omega (arith, u .columns))))
 
     pub cut-long : row < length p → length (take ((row + 1) * wide w + wide w - (row + 1) * wide w) (drop ((row + 1) * wide w) t)) ≡ wide w

@@ -9,6 +9,7 @@ use lib.Dec.{leb}
 use lib.ListN.{length}
 use Rattle.paper.specs.Words.{wide}
 use Rattle.paper.specs.Calls.{planFits, newRefused}
+use Rattle.paper.specs.Devices.{mostRows, devices}
 use Rattle.laws.proofs.Refusals.{first-none, first-passed, first-met, first-held, first-failed}
 use Rattle.vector.proofs.Parts.{words-small}
 use Rattle.refused.proofs.NewTable.{plan-few}
@@ -23,7 +24,7 @@ plan : (c : tie.After-plan-fits) → let s : tie.Start = search in planFits (s .
 unfolding planFits
 plan c = sym (c .plan-fits .ensures _)
 
-small : (c : tie.Else2) → let s : tie.Start = search in length (s .args .plan .now) * wide (s .args .columns) ≤ 18432
+small : (c : tie.Else2) → let s : tie.Start = search in length (s .args .plan .now) * wide (s .args .columns) ≤ mostRows * wide devices
 small c =
     let s : tie.Start = search in
     words-small (length (s .args .plan .now)) (wide (s .args .columns)) (plan-few (s .args .columns) _ (plan (search) ∙ not-false _ (c .if2 .left))) (omega (arith, s .pre))

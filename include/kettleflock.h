@@ -52,7 +52,7 @@ extern "C" {
 #endif
 
 /* The version of this header: major * 65536 + minor. kf_version gives that of the library that is linked. */
-#define KF_VERSION 2
+#define KF_VERSION 3
 
 /* Before a call whose answer must be looked at: the compiler warns where it is dropped. */
 #if defined(__cplusplus) && __cplusplus >= 201703L

@@ -26,7 +26,7 @@ pub struct Answer {
 }
 
 /// The version of the library that this crate belongs to, as [`version`] gives it.
-pub const VERSION: u32 = 2;
+pub const VERSION: u32 = 3;
 
 mod exports {
     use super::Answer;

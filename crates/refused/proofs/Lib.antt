@@ -1,4 +1,3 @@
-pub mod Beneath
 pub mod NewTable
 pub mod EventFits
 pub mod NamedNumbers

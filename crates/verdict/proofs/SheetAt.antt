@@ -1,5 +1,5 @@
 -- The sheet at a row of a table, by the row's words, and the ruling at a row of two tables.
-use Prim.Native.Nat.{ℕ, zero, suc, _+_, _-_, _<_}
+use Prim.Native.Nat.{ℕ, zero, suc, _+_, _-_, _*_, _<_}
 use mathlib.Core.Path.{_≡_, refl, sym, ap, ap₂, _∙_}
 use mathlib.Core.List.{List, [], _++_}
 use mathlib.Core.Bool.{Bool, true, false, cond, false≢true}
@@ -20,7 +20,7 @@ use Rattle.paper.specs.Calls.{rowAt, pairAt, rulingHere, isFolder}
 use Rattle.laws.proofs.FormedRows.{Formed, ordered-formed}
 use Rattle.laws.proofs.Forests.{mapped-size}
 use Rattle.laws.proofs.Tables.{checked-size, check-facts}
-use Rattle.two.proofs.Listed.{listed, length-listed, rows-at, rows-all}
+use Rattle.two.proofs.Listed.{listed, length-listed, rows-at, rows-all, word-at}
 use Rattle.verdict.proofs.Zipped.{mapped-at, side-left, side-right, ruling-pair, ruling-folder}
 
 -- no sheet
@@ -70,6 +70,12 @@ module _ (w : ℕ) (t : List ℕ) (e : checkOf w t ≡ 0) (row : ℕ) (h : row <
       go : (b : Bool) → isFolder (Option·map (sheetOf w) (cond b none (some (rowAt w t row)))) ≡ b
       go true = refl
       go false = refl
+
+  -- so does the kind word among the table's words
+  pub folder-word : eqb (getD t ((row + 1) * wide w) 0) 3 ≡ isFolder (sheetHere (subtree (tableOf w t .tree) row))
+  folder-word =
+      let z : (row + 1) * wide w + 0 ≡ (row + 1) * wide w = omega arith in
+      sym (folder-row ∙ ap (λ k. eqb k 3) (word-at w t row 0 (omega arith) ∙ ap (λ i. getD t i 0) z))
 
   -- a sheet that is found is what the row's words say
   pub sheet-says : {X : Type 0} (f : X → _) (o : Option X) → sheetHere (subtree (tableOf w t .tree) row) ≡ Option·map f o → (x : X) → o ≡ some x → f x ≡ sheetOf w (rowAt w t row)

@@ -17,7 +17,7 @@ use Rattle.laws.proofs.Tables.{check-facts}
 use Rattle.laws.proofs.Widths.{read-few}
 use Rattle.order.proofs.RowPlaces.{Begins, begins}
 use Rattle.two.proofs.TwoTables.{no-row, row-there}
-use Rattle.refused.proofs.Beneath.{folder-word}
+use Rattle.verdict.proofs.SheetAt.{folder-word}
 use Rattle.refused.proofs.of_showing.beneath_refused.Statement.{statement}
 use Rattle.refused.proofs.of_showing.beneath_refused.Tie as tie
 

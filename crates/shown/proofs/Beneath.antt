@@ -5,7 +5,7 @@ use mathlib.Core.List.{List, []}
 use mathlib.Core.Bool.{Bool, true, false, _||_, cond}
 use native.Mathlib.Omega.{arith}
 use native.Mathlib.Nat.{add-mul, mul-le-mul-right}
-use lib.Dec.{eqb, ltb}
+use lib.Dec.{ltb}
 use borrow.Author.Tests.{ltb-true, ltb-false, leb-false}
 use lib.ListN.{length, getD, take, drop, length-take}
 use Rattle.paper.specs.Tree.{Forest, end, sheet, folder, size, subtree, sheetHere}
@@ -15,16 +15,8 @@ use Rattle.paper.specs.Calls.{Answered, isFolder, beneathRefused, beneathPart, 
 use Rattle.laws.proofs.Refusals.{first-both, when-none, unless-none, unless-some}
 use Rattle.laws.proofs.Forests.{subtree-fits}
 use Rattle.laws.proofs.Tables.{check-facts, checked-size}
-use Rattle.two.proofs.Listed.{word-at}
-use Rattle.verdict.proofs.SheetAt.{folder-row}
 use Rattle.two.proofs.Sizes.{size-word}
 use Rattle.paper.specs.Shown.{wordAt, beneathFrom}
-
--- is it a folder? Its kind word tells
-pub folder-word : (w : ℕ) (t : List ℕ) → checkOf w t ≡ 0 → (row : ℕ) → row < getD t 2 0 → eqb (getD t ((row + 1) * wide w) 0) 3 ≡ isFolder (sheetHere (subtree (tableOf w t .tree) row))
-folder-word w t e row h =
-    let z : (row + 1) * wide w + 0 ≡ (row + 1) * wide w = omega arith in
-    sym (folder-row w t e row h ∙ ap (λ k. eqb k 3) (word-at w t row 0 (omega arith) ∙ ap (λ i. getD t i 0) z))
 
 -- WHERE NOTHING REFUSES
 pub record FolderAt (w : ℕ) (t : List ℕ) (row : ℕ) : Type 0 where

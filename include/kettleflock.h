@@ -26,9 +26,9 @@
  * Threads. Any thread may make any call at any time, as long as nobody writes a buffer that is lent, and nobody reads
  * one that the call writes. Calls use neither errno nor locale nor signals. README.md says how much stack they take.
  *
- * Answers. Every call but the last two gives a number and a count. Number 0 is success; any other is one of
- * KF_REFUSED_..., with the count 0, and then no word of any buffer has changed. Where several refusals apply, the first
- * in the order given at the call is the one given.
+ * Answers. Every call but the last two gives a number, and with it a count, or from kf_ahead two masks. Number 0 is
+ * success; any other is one of KF_REFUSED_..., with the count or the masks 0, and then no word of any buffer has changed.
+ * Where several refusals apply, the first in the order given at the call is the one given.
  *
  * Layout. A vector has a column, one count, for each device: 8 in a narrow table, for devices 0 to 7, and 16 in a
  * wide one, for devices 0 to 15. A table is a head and then its 1 to 256 rows; the head and each row have 40 words if
@@ -52,7 +52,7 @@ extern "C" {
 #endif
 
 /* The version of this header: major * 65536 + minor. kf_version gives that of the library that is linked. */
-#define KF_VERSION 3
+#define KF_VERSION 4
 
 /* Before a call whose answer must be looked at: the compiler warns where it is dropped. */
 #if defined(__cplusplus) && __cplusplus >= 201703L
@@ -91,11 +91,18 @@ enum kf_row_place { KF_AT_KIND = 0, KF_AT_SIZE = 1, KF_AT_STAMP = 2, KF_AT_BIRTH
 /* Room for any table, in words. The length that is lent is the table's own. */
 #define KF_MOST_LENGTH KF_LENGTH(KF_COLUMNS_WIDE, KF_MOST_ROWS)
 
-/* What every call gives. */
+/* What a call gives. */
 typedef struct kf_answer {
     uint32_t number; /* 0, or why the call was refused */
     uint32_t count;  /* what the call counts; 0 on a refusal */
 } kf_answer;
+
+/* What kf_ahead gives. In a mask bit d stands for device d. */
+typedef struct kf_masks {
+    uint32_t number; /* 0, or why the call was refused */
+    uint32_t source; /* the devices of whom the source knows more than the target; 0 on a refusal */
+    uint32_t target; /* the devices of whom the target knows more than the source; 0 on a refusal */
+} kf_masks;
 
 /* Why a call is refused. */
 enum kf_refusal {
@@ -111,11 +118,11 @@ enum kf_refusal {
     KF_REFUSED_ROW = 8,           /* no such row (for the rows under a folder: or not a folder) */
     KF_REFUSED_LENGTH = 9,        /* a lent output has the wrong length */
     KF_REFUSED_UNFIT = 10,        /* event unfit for the row's kind, or settling a folder; showing a folder as the row
-                                     that stands */
+                                     that stands; asking who is ahead at a folder */
     KF_REFUSED_TARGET_HEAD = 11,  /* 1, for the target */
     KF_REFUSED_TARGET_ORDER = 12, /* 2, for the target */
     KF_REFUSED_TARGET_RULE = 13,  /* 3, for the target */
-    KF_REFUSED_NO_CONFLICT = 14,  /* settling where the rules don't say conflict */
+    KF_REFUSED_NO_CONFLICT = 14,  /* settling, or asking who is ahead, where the rules don't say conflict */
     KF_REFUSED_COUNTER = 15,      /* the counter is 4,294,967,295 and a new stamp is needed */
     KF_REFUSED_CHOICE = 16,       /* event or choice not 1, 2 or 3 */
     KF_REFUSED_DEVICE = 17,       /* new table's device above 7 (above 15 with 16 columns) */
@@ -127,7 +134,7 @@ enum kf_refusal {
 enum kf_kind { KF_NEVER = 0, KF_LIVE = 1, KF_REMOVED = 2, KF_FOLDER = 3 };
 
 /* What a user does to a sheet. */
-enum kf_event { KF_CREATE = 1, KF_CHANGE = 2, KF_REMOVE = 3 };
+enum kf_event_kind { KF_CREATE = 1, KF_CHANGE = 2, KF_REMOVE = 3 };
 
 /* How a conflict is settled. */
 enum kf_choice { KF_THEIRS = 1, KF_OWN = 2, KF_NEW = 3 };
@@ -221,7 +228,18 @@ kf_answer kf_standing(const uint32_t *source, size_t source_length, const uint32
                       uint32_t row);
 
 /*
- * In whose table that row lies, at its KF_ROW: KF_SOURCE or KF_TARGET, and KF_NEITHER on a conflict or a refusal.
+ * Says who is ahead at a sheet where the rules say conflict: the devices whose count is greater in the known time of the
+ * source there than in that of the target, and those whose count is greater in the target's. Neither mask is 0. Changes
+ * nothing.
+ * Refused with 1, 2, 3, 11, 12, 13, 19, 4, 5, 6, 7, 8, 10, 14.
+ */
+KF_MUST_USE
+kf_masks kf_ahead(const uint32_t *source, size_t source_length, const uint32_t *target, size_t target_length,
+                  uint32_t row);
+
+/*
+ * In whose table the row that kf_standing shows lies, at its KF_ROW: KF_SOURCE or KF_TARGET, and KF_NEITHER on a conflict
+ * or a refusal.
  */
 KF_MUST_USE
 uint32_t kf_standing_side(const uint32_t *source, size_t source_length, const uint32_t *target, size_t target_length,

@@ -24,11 +24,13 @@ pub enum Call {
     Beneath,
     /// `kf_standing` and `kf_standing_side`.
     Standing,
+    /// `kf_ahead`.
+    Ahead,
 }
 
 impl Call {
     /// All calls.
-    pub const ALL: [Call; 8] = [
+    pub const ALL: [Call; 9] = [
         Call::Check,
         Call::New,
         Call::Widen,
@@ -37,6 +39,7 @@ impl Call {
         Call::Settle,
         Call::Beneath,
         Call::Standing,
+        Call::Ahead,
     ];
 
     /// Its name.
@@ -50,6 +53,7 @@ impl Call {
             Call::Settle => "kf_settle",
             Call::Beneath => "kf_beneath",
             Call::Standing => "kf_standing",
+            Call::Ahead => "kf_ahead",
         }
     }
 
@@ -64,6 +68,7 @@ impl Call {
             Call::Settle => &[0, 1, 2, 3, 11, 12, 13, 19, 4, 5, 6, 7, 8, 16, 10, 14, 15],
             Call::Beneath => &[0, 1, 2, 3, 8],
             Call::Standing => &[0, 1, 2, 3, 11, 12, 13, 19, 4, 5, 6, 7, 8, 10],
+            Call::Ahead => &[0, 1, 2, 3, 11, 12, 13, 19, 4, 5, 6, 7, 8, 10, 14],
         }
     }
 
@@ -82,7 +87,7 @@ impl Call {
     /// The buffers that it may change, by name.
     pub fn changes(self) -> &'static [&'static str] {
         match self {
-            Call::Check | Call::Beneath | Call::Standing => &[],
+            Call::Check | Call::Beneath | Call::Standing | Call::Ahead => &[],
             Call::New | Call::Event | Call::Settle => &["target"],
             Call::Widen => &["wide"],
             Call::Pass => &["target", "answers"],
@@ -91,7 +96,10 @@ impl Call {
 
     /// Whether it works on two tables.
     pub fn has_source(self) -> bool {
-        matches!(self, Call::Pass | Call::Settle | Call::Standing)
+        matches!(
+            self,
+            Call::Pass | Call::Settle | Call::Standing | Call::Ahead
+        )
     }
 }
 
@@ -144,10 +152,12 @@ impl Lent {
 /// What came of a call.
 #[derive(Clone, Debug, PartialEq, Eq)]
 pub struct Outcome {
-    /// Number and count.
+    /// Number and count; who is ahead isn't counted.
     pub answer: Answer,
     /// In whose table the row that stands lies; 0 for every other call.
     pub side: u32,
+    /// The devices that are ahead in the source and in the target, as masks; 0 for every other call.
+    pub ahead: [u32; 2],
     /// Everything lent, as it was afterwards.
     pub lent: Lent,
     /// Whether all words around the lent buffers stayed as they were.
@@ -198,7 +208,7 @@ pub fn perform(program: &Program, call: Call, lent: &Lent, shift: usize) -> Outc
     let mut buffers = lent.buffers().map(|(_, words)| Guarded::new(words, shift));
     let [source, target, wide, plan, answers] = &mut buffers;
     let (row, act, mark) = (lent.row, lent.act, lent.mark);
-    let mut side = 0;
+    let (mut side, mut ahead) = (0, [0; 2]);
     let answer = match call {
         Call::Check => (program.check)(target.lent()),
         Call::New => (program.new)(lent.columns, lent.device, plan.lent(), target.lent()),
@@ -211,12 +221,21 @@ pub fn perform(program: &Program, call: Call, lent: &Lent, shift: usize) -> Outc
             side = (program.standing_side)(source.lent(), target.lent(), row);
             (program.standing)(source.lent(), target.lent(), row)
         }
+        Call::Ahead => {
+            let masks = (program.ahead)(source.lent(), target.lent(), row);
+            ahead = [masks.source, masks.target];
+            Answer {
+                number: masks.number,
+                count: 0,
+            }
+        }
     };
     let guards_held = buffers.iter().all(Guarded::held);
     let [source, target, wide, plan, answers] = buffers.map(|mut buffer| buffer.lent().to_vec());
     Outcome {
         answer,
         side,
+        ahead,
         lent: Lent {
             source,
             target,

@@ -2,7 +2,7 @@
 
 use std::ops::Range;
 
-use second::history::{Act, Choice};
+use second::history::{Act, Choice, Ruling};
 use second::layout::{head, Kind, Width};
 use second::trial::look::{is_folder, kind, known, rows, size, stamp, width};
 use second::trial::{plans, two_of, Random};
@@ -257,7 +257,33 @@ impl Desk<'_> {
         for call in [Call::Check, Call::Beneath] {
             self.judge.call(call, &lent)?;
         }
-        self.call_pair(Call::Standing, &lent).map(drop)
+        self.call_pair(Call::Standing, &lent)?;
+        let Some(outcome) = self.call_pair(Call::Ahead, &lent)? else {
+            return Ok(());
+        };
+        let number = self.number_ahead(pair);
+        hold(outcome.answer.number == number, || {
+            format!("who is ahead gives {}, not {number}", outcome.answer.number)
+        })
+    }
+
+    /// What the history says of the call for who is ahead: 0 on a conflict.
+    fn number_ahead(&self, pair: Pair) -> u32 {
+        let Pair {
+            source,
+            target,
+            row,
+        } = pair;
+        if row >= rows(&self.tables[target]) {
+            return 8;
+        }
+        if is_folder(&self.tables[target], row) {
+            return 10;
+        }
+        match self.record.history.ruling(source, target, row) {
+            Ruling::Conflict => 0,
+            _ => 14,
+        }
     }
 
     /// Two devices' tables and a row.

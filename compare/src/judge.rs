@@ -12,13 +12,15 @@ use crate::program::Program;
 #[derive(Clone, Debug, Default, PartialEq, Eq)]
 pub struct Tally {
     /// By call, in the order of `Call::ALL`, and by number.
-    pub numbers: [[u64; 20]; 8],
+    pub numbers: [[u64; 20]; Call::ALL.len()],
     /// By kind in the source, kind in the target and answer, of the sheets of passes.
     pub sheets: [[[u64; 4]; 3]; 3],
     /// Walked and passed over, of the folders of passes.
     pub folders: [u64; 2],
     /// By side, of the calls for the row that stands that succeeded.
     pub sides: [u64; 3],
+    /// By side and by device, of the calls for who is ahead that succeeded.
+    pub ahead: [[u64; Width::Wide.columns()]; 2],
     /// Stayed and gave way: the target's removals that a pass of a run brought one they hadn't heard of.
     pub removals: [u64; 2],
 }
@@ -43,7 +45,16 @@ impl Tally {
                 }
             }
             (Call::Standing, 0) => self.sides[outcome.side as usize] += 1,
+            (Call::Ahead, 0) => self.add_ahead(outcome.ahead),
             _ => (),
+        }
+    }
+
+    fn add_ahead(&mut self, masks: [u32; 2]) {
+        for (mask, devices) in masks.into_iter().zip(&mut self.ahead) {
+            for (device, times) in devices.iter_mut().enumerate() {
+                *times += u64::from(mask >> device & 1);
+            }
         }
     }
 
@@ -150,6 +161,10 @@ impl Judge {
         differ("number".to_owned(), ours.number, theirs.number);
         differ("count".to_owned(), ours.count, theirs.count);
         differ("side".to_owned(), outcome.side, expected.side);
+        for (name, side) in ["source", "target"].into_iter().zip(0..) {
+            let ours = outcome.ahead[side];
+            differ(format!("ahead in the {name}"), ours, expected.ahead[side]);
+        }
         let buffers = outcome.lent.buffers().into_iter();
         for ((name, ours), (_, theirs)) in buffers.zip(expected.lent.buffers()) {
             for (place, (&ours, &theirs)) in ours.iter().zip(theirs).enumerate() {
@@ -184,6 +199,14 @@ fn faults(call: Call, before: &Lent, outcome: &Outcome) -> Vec<String> {
         (
             refused && outcome.side != 0,
             "a refusal shows a row that stands",
+        ),
+        (
+            refused && outcome.ahead != [0; 2],
+            "a refusal says who is ahead",
+        ),
+        (
+            call == Call::Ahead && !refused && outcome.ahead.contains(&0),
+            "in a conflict nobody is ahead on one side",
         ),
         (
             refused && outcome.lent != *before,

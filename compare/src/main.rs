@@ -3,7 +3,7 @@
 //!
 //! The last line is `N passed, M failed`: a part of the comparison counts as one, and so does each thing that must have
 //! been seen at each width: each number of each call, each answer for each pair of kinds, each side on which a row
-//! stands, and in runs both ends of two removals that meet.
+//! stands, each device ahead on each side, and in runs both ends of two removals that meet.
 
 use std::env;
 use std::process::ExitCode;
@@ -253,6 +253,12 @@ fn seen(judge: &Judge, width: Width, score: &mut Score) {
     println!("the row that stands was in neither table, the source's, the target's:");
     for (side, &times) in tally.sides.iter().enumerate() {
         see(&side.to_string(), times);
+    }
+    println!("in a conflict each device was ahead in the source, and in the target:");
+    for (side, devices) in ["source", "target"].into_iter().zip(&tally.ahead) {
+        for (device, &times) in devices.iter().take(width.columns()).enumerate() {
+            see(&format!("{side}, device {device}"), times);
+        }
     }
     println!("in a run a removal that the target hadn't heard of met one of its own, which");
     for (what, &times) in ["stayed", "gave way"].into_iter().zip(&tally.removals) {

@@ -1,7 +1,7 @@
 //! The calls of a program, whichever it is, on words.
 
 use kettleflock::raw;
-pub use kettleflock::raw::Answer;
+pub use kettleflock::raw::{Answer, Masks};
 
 /// A program of the calls.
 #[derive(Clone, Copy)]
@@ -26,6 +26,8 @@ pub struct Program {
     pub standing: fn(&[u32], &[u32], u32) -> Answer,
     /// `kf_standing_side`.
     pub standing_side: fn(&[u32], &[u32], u32) -> u32,
+    /// `kf_ahead`.
+    pub ahead: fn(&[u32], &[u32], u32) -> Masks,
 }
 
 /// The product, through its exports.
@@ -40,6 +42,7 @@ pub const PRODUCT: Program = Program {
     beneath: raw::beneath,
     standing: raw::standing,
     standing_side: raw::standing_side,
+    ahead: raw::ahead,
 };
 
 /// The second program.
@@ -56,6 +59,14 @@ pub const SECOND: Program = Program {
     beneath: |table, row| told(second::beneath(table, row).0),
     standing: |source, target, row| told(second::standing(source, target, row).0),
     standing_side: |source, target, row| second::standing(source, target, row).1 as u32,
+    ahead: |source, target, row| {
+        let masks = second::ahead(source, target, row);
+        Masks {
+            number: masks.number,
+            source: masks.source,
+            target: masks.target,
+        }
+    },
 };
 
 fn told(answer: second::Answer) -> Answer {

@@ -83,7 +83,7 @@ fn call(call: Call, lent: &Lent) -> String {
             target()
         ),
         Call::Beneath => format!("{name}(table, row {row})\n{}", only()),
-        Call::Standing => format!(
+        Call::Standing | Call::Ahead => format!(
             "{name}(source, target, row {row})\n{}{}",
             source(),
             target()

@@ -3,7 +3,7 @@
 use compare::call::{Call, Lent};
 use compare::judge::{Failure, Judge};
 use compare::lents;
-use compare::program::{Answer, Program, SECOND};
+use compare::program::{Answer, Masks, Program, SECOND};
 use compare::run::{Run, Step};
 use compare::shrink;
 use second::layout::{head, word, Time, Width, MOST_LEVELS};
@@ -99,38 +99,54 @@ fn answers_written_before_a_refusal() {
     found(Program { pass, ..SECOND }, Call::Pass, 2);
 }
 
+/// A pass after which something is done to the target's words, by those of the source and of the target before it.
+fn pass_and(
+    source: &[u32],
+    target: &mut [u32],
+    row: u32,
+    answers: &mut [u32],
+    then: fn(&[u32], &[u32], &mut [u32]),
+) -> Answer {
+    let before = target.to_vec();
+    let answer = (SECOND.pass)(source, target, row, answers);
+    if answer.number == 0 {
+        then(source, &before, target);
+    }
+    answer
+}
+
 #[test]
 fn newest_never_falls() {
-    let pass = |source: &[u32], target: &mut [u32], row: u32, answers: &mut [u32]| {
-        let before = target.to_vec();
-        let answer = (SECOND.pass)(source, target, row, answers);
-        if answer.number == 0 {
-            for place in counts(target, 0, Time::Newest) {
-                target[place] = target[place].max(before[place]);
-            }
-        }
-        answer
+    let program = Program {
+        pass: |source, target, row, answers| {
+            pass_and(source, target, row, answers, |_, before, target| {
+                for place in counts(target, 0, Time::Newest) {
+                    target[place] = target[place].max(before[place]);
+                }
+            })
+        },
+        ..SECOND
     };
-    found(Program { pass, ..SECOND }, Call::Pass, 3);
+    found(program, Call::Pass, 3);
 }
 
 #[test]
 fn removals_never_give_way() {
-    let pass = |source: &[u32], target: &mut [u32], row: u32, answers: &mut [u32]| {
-        let before = target.to_vec();
-        let answer = (SECOND.pass)(source, target, row, answers);
-        if answer.number == 0 {
-            for row in 0..rows(target) {
-                if [source, &before].map(|table| kind(table, row)) == [2; 2] {
-                    let stamp = place(target, row, word::STAMP);
-                    target[stamp..stamp + 2].copy_from_slice(&before[stamp..stamp + 2]);
+    let program = Program {
+        pass: |source, target, row, answers| {
+            pass_and(source, target, row, answers, |source, before, target| {
+                for row in 0..rows(target) {
+                    if [source, before].map(|table| kind(table, row)) == [2; 2] {
+                        let stamp = place(target, row, word::STAMP);
+                        target[stamp..stamp + 2].copy_from_slice(&before[stamp..stamp + 2]);
+                    }
                 }
-            }
-            mend(target);
-        }
-        answer
+                mend(target);
+            })
+        },
+        ..SECOND
     };
-    found(Program { pass, ..SECOND }, Call::Pass, 2);
+    found(program, Call::Pass, 2);
 }
 
 #[test]
@@ -161,6 +177,65 @@ fn side_of_a_conflict() {
         ..SECOND
     };
     found(program, Call::Standing, 2);
+}
+
+#[test]
+fn ahead_the_other_way_round() {
+    let ahead = |source: &[u32], target: &[u32], row: u32| {
+        let masks = (SECOND.ahead)(source, target, row);
+        Masks {
+            source: masks.target,
+            target: masks.source,
+            ..masks
+        }
+    };
+    found(Program { ahead, ..SECOND }, Call::Ahead, 2);
+}
+
+#[test]
+fn bits_of_who_is_ahead_reversed() {
+    let ahead = |source: &[u32], target: &[u32], row: u32| {
+        let masks = (SECOND.ahead)(source, target, row);
+        let turned = |mask: u32| mask.reverse_bits() >> (32 - width(target).columns());
+        Masks {
+            source: turned(masks.source),
+            target: turned(masks.target),
+            ..masks
+        }
+    };
+    found(Program { ahead, ..SECOND }, Call::Ahead, 2);
+}
+
+#[test]
+fn only_the_tables_own_devices_are_ahead() {
+    let ahead = |source: &[u32], target: &[u32], row: u32| {
+        let masks = (SECOND.ahead)(source, target, row);
+        if masks.number != 0 {
+            return masks;
+        }
+        Masks {
+            source: masks.source & 1 << source[head::DEVICE],
+            target: masks.target & 1 << target[head::DEVICE],
+            ..masks
+        }
+    };
+    found(Program { ahead, ..SECOND }, Call::Ahead, 2);
+}
+
+#[test]
+fn ahead_without_a_conflict() {
+    let ahead = |source: &[u32], target: &[u32], row: u32| {
+        let masks = (SECOND.ahead)(source, target, row);
+        if masks.number != 14 {
+            return masks;
+        }
+        Masks {
+            source: 1,
+            target: 2,
+            ..masks
+        }
+    };
+    found(Program { ahead, ..SECOND }, Call::Ahead, 2);
 }
 
 #[test]

@@ -8,8 +8,8 @@
 //! A table is narrow or wide, with eight or sixteen columns, as its head says ([`layout`]). In all that is done to a
 //! table its vectors have sixteen columns, and those that a narrow table doesn't have are zero.
 //!
-//! Every call works on word slices and gives an [`Answer`]: the refusal's number, or 0, and a count. [`trial`] serves
-//! those who try the calls out.
+//! Every call works on word slices and gives an [`Answer`]: the refusal's number, or 0, and a count; or [`Masks`] in place
+//! of a count. [`trial`] serves those who try the calls out.
 //!
 //! ```
 //! let plan = [5, 3, 0, 0, 0];
@@ -69,6 +69,18 @@ impl Answer {
             },
         }
     }
+}
+
+/// Who is ahead in a conflict, bit d of a mask standing for device d: both masks are 0 on a refusal.
+#[derive(Clone, Copy, Debug, PartialEq, Eq, Hash)]
+#[repr(C)]
+pub struct Masks {
+    /// 0, or why the call was refused.
+    pub number: u32,
+    /// The devices of whom the source knows a later count.
+    pub source: u32,
+    /// The devices of whom the target knows a later count.
+    pub target: u32,
 }
 
 /// In whose table the row that stands lies.
@@ -135,6 +147,19 @@ pub fn standing(source: &[u32], target: &[u32], row: u32) -> (Answer, Side) {
     });
     let side = stands.map_or(Side::None, |(side, _)| side);
     (Answer::of(count), side)
+}
+
+/// Says who is ahead at a sheet in conflict: by its known time in the source, and by that in the target.
+pub fn ahead(source: &[u32], target: &[u32], row: u32) -> Masks {
+    let (number, [source, target]) = match try_ahead(source, target, row) {
+        Ok(masks) => (0, masks),
+        Err(refusal) => (refusal.number(), [0; 2]),
+    };
+    Masks {
+        number,
+        source,
+        target,
+    }
 }
 
 fn try_check(words: &[u32]) -> Result<u32, Refusal> {
@@ -224,4 +249,12 @@ fn try_standing(source: &[u32], target: &[u32], row: u32) -> Result<(Side, Width
         Ruling::Conflict => Side::None,
     };
     Ok((side, target.width))
+}
+
+fn try_ahead(source: &[u32], target: &[u32], row: u32) -> Result<[u32; 2], Refusal> {
+    let (source, target) = sound::read_pair(source, target)?;
+    let row = sound::find(&target, row)?;
+    work::find_conflict(&source, &target, row)?;
+    let [a, b] = [&source, &target].map(|table| times::known(table, row));
+    Ok([a.ahead_of(&b), b.ahead_of(&a)])
 }

@@ -75,7 +75,7 @@ fn look_at(
 /// Whether the target covers all that is beneath the source's folder, and the source's folder is level.
 fn is_passed_over(source: &Table, target: &Table, folder: usize) -> bool {
     let newest = times::summary(source, folder).newest;
-    times::full_least(target, folder).covers_all(newest) && times::is_level(source, folder)
+    times::full_least(target, folder).covers_all(&newest) && times::is_level(source, folder)
 }
 
 /// The answer for a row beneath a folder that is passed over.

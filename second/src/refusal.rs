@@ -21,7 +21,7 @@ pub enum Refusal {
     WrongLength,
     /// The event does not fit the row's kind, or a folder stands where a sheet is needed.
     Unfit,
-    /// There is no conflict to settle.
+    /// There is no conflict.
     NoConflict,
     /// The counter has no next count.
     CounterFull,

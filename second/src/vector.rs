@@ -77,8 +77,15 @@ impl Vector {
         self.count(stamp.device) >= stamp.count
     }
 
-    /// Whether another vector is covered, column by column.
-    pub fn covers_all(&self, other: Vector) -> bool {
-        self.greatest(other) == *self
+    /// A mask of the devices whose count is greater here than in another vector: bit d stands for device d.
+    pub fn ahead_of(&self, other: &Vector) -> u32 {
+        let ahead = |device: &u32| self.count(*device) > other.count(*device);
+        let devices = 0..Vector::COLUMNS as u32;
+        devices.filter(ahead).map(|device| 1 << device).sum()
+    }
+
+    /// Whether another vector is covered: it is nowhere ahead.
+    pub fn covers_all(&self, other: &Vector) -> bool {
+        other.ahead_of(self) == 0
     }
 }

@@ -127,6 +127,17 @@ pub fn event(table: &mut Table, row: usize, event: Event, mark: u32) -> Result<u
     Ok(stamp.count)
 }
 
+/// Sees that the row is a sheet, and the rules say conflict.
+pub fn find_conflict(source: &Table, target: &Table, row: usize) -> Result<(), Refusal> {
+    if target.rows[row].is_folder() {
+        return Err(Refusal::Unfit);
+    }
+    match rules::ruling(source, target, row) {
+        Ruling::Conflict => Ok(()),
+        _ => Err(Refusal::NoConflict),
+    }
+}
+
 /// Settles the conflict at a sheet and gives the count of the new stamp, 0 if there is none.
 pub fn settle(
     source: &Table,
@@ -135,12 +146,7 @@ pub fn settle(
     choice: Choice,
     mark: u32,
 ) -> Result<u32, Refusal> {
-    if target.rows[row].is_folder() {
-        return Err(Refusal::Unfit);
-    }
-    if rules::ruling(source, target, row) != Ruling::Conflict {
-        return Err(Refusal::NoConflict);
-    }
+    find_conflict(source, target, row)?;
     let count = match choice {
         Choice::Theirs => {
             target.rows[row].take(&source.rows[row]);

@@ -26,7 +26,7 @@ type Tally = [u32; 20];
 
 /// Tries every call with what is lent.
 fn try_all(lent: &Lent, tally: &mut Tally) {
-    let calls: [fn(&mut Lent) -> Answer; 8] = [
+    let calls: [fn(&mut Lent) -> Answer; 9] = [
         |lent| second::check(&lent.target),
         |lent| {
             let device = lent.numbers[0];
@@ -57,6 +57,7 @@ fn try_all(lent: &Lent, tally: &mut Tally) {
             answer
         },
         |lent| second::standing(&lent.source, &lent.target, lent.numbers[0]).0,
+        |lent| ahead_number(&lent.source, &lent.target, lent.numbers[0]),
     ];
     for call in calls {
         let mut after = lent.clone();

@@ -220,6 +220,21 @@ fn of_showing_the_row_that_stands() {
 }
 
 #[test]
+fn of_asking_who_is_ahead() {
+    let call = |lent: &mut Lent| ahead_number(&lent.source, &lent.target, lent.row);
+    let order: [&[Fault]; 7] = [
+        &SOURCE,
+        &TARGET,
+        &WIDTHS[1..],
+        &PAIR,
+        &[NO_ROW, NO_ROW_AT_ALL],
+        &[A_FOLDER],
+        &[NO_CONFLICT],
+    ];
+    assert_orders(|_| (), call, &order);
+}
+
+#[test]
 fn of_a_widening() {
     let narrow = Lent {
         output: vec![7; Width::Wide.length(5)],

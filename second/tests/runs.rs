@@ -5,7 +5,7 @@ mod common;
 use std::collections::BTreeSet;
 
 use common::*;
-use second::history::{Act, Choice, Event, History, State};
+use second::history::{Act, Choice, Event, History, Ruling, State};
 
 /// Everything random in this file comes from this seed.
 const SEED: u64 = 20_050_214;
@@ -187,6 +187,7 @@ impl Run {
             (NEW, Choice::New),
         ]);
         let mark = self.random.word();
+        self.assert_ahead(source, target, row);
         let (source_words, target_words) = pair(&mut self.desk.tables, source, target);
         let answer = second::settle(source_words, target_words, row as u32, number, mark);
         let said = self.history.settle(source, target, row, choice);
@@ -194,6 +195,24 @@ impl Run {
         tally.settlings += u32::from(said.is_some());
         assert_sound(&self.desk.tables[target]);
         self.assert_agreed(target);
+    }
+
+    /// Where the history says conflict, each side is ahead of the other by somebody's column of the known times.
+    fn assert_ahead(&self, source: usize, target: usize, row: usize) {
+        let said = self.desk.ahead(source, target, row);
+        if self.history.ruling(source, target, row) != Ruling::Conflict {
+            return assert_eq!(said, masks(14, 0, 0));
+        }
+        let [a, b] = [source, target].map(|device| known(&self.desk.tables[device], row));
+        for device in 0..32 {
+            let bits = [said.source, said.target].map(|mask| mask >> device & 1 == 1);
+            let counts = [a.count(device), b.count(device)];
+            assert_eq!(bits, [counts[0] > counts[1], counts[1] > counts[0]]);
+        }
+        assert!(
+            said.number == 0 && said.source != 0 && said.target != 0,
+            "{said:?}"
+        );
     }
 
     /// A device's table and its history tell the same of every sheet: what it is, by which event, and which

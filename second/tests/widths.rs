@@ -171,6 +171,7 @@ fn every_call_on_two_widths_gives_19() {
         assert_eq!(second::settle(source, &mut after, 2, OWN, 1), refused(19));
         let (answer, side) = second::standing(source, &after, 2);
         assert_eq!((answer, side), (refused(19), second::Side::None));
+        assert_eq!(second::ahead(source, &after, 2), masks(19, 0, 0));
         assert_eq!((&after, answers), (target, [9; 5]));
     }
 }

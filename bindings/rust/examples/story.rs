@@ -4,7 +4,9 @@
 //! with the laptop and with the desk: the correction must survive. If the tablet was worked on too, somebody has to hear
 //! of it: conflict.
 
-use kettleflock::{pass, settle, Answer, Choice, Columns, Kind, Passed, Plan, Refusal, Table};
+use kettleflock::{
+    ahead, pass, settle, Answer, Choice, Columns, Devices, Kind, Passed, Plan, Refusal, Table,
+};
 
 /// The duty sheet's row: a folder of two sheets and another sheet beneath the root.
 const SHEET: usize = 2;
@@ -31,6 +33,12 @@ fn tell(who: &str, passed: &Passed, target: &Table) {
         "{who}: {said}; the sheet there says {has} ({} rows looked at)",
         passed.looked_at()
     );
+}
+
+/// The names of some devices.
+fn names(devices: Devices) -> String {
+    let name = |device: u32| ["desk", "tablet", "laptop"][device as usize];
+    devices.iter().map(name).collect::<Vec<_>>().join(" and ")
 }
 
 fn main() -> Result<(), Refusal> {
@@ -71,6 +79,13 @@ fn main() -> Result<(), Refusal> {
         } else {
             "NOBODY HEARS OF IT."
         }
+    );
+
+    let who = ahead(&tablet, &desk, SHEET)?;
+    println!(
+        "The tablet is ahead by what the {} did, the desk by what the {} did.",
+        names(who.source),
+        names(who.target)
     );
 
     println!("The desk settles by a new figure, 645, and it goes out.");

@@ -2,7 +2,7 @@
 //!
 //! Each device holds a [`Table`] of times for one tree of duty sheets. A [`pass`] carries what is new from one table
 //! to another; where two people have worked on one sheet without knowing of each other it says conflict, and
-//! somebody chooses: see [`settle`].
+//! somebody chooses: see [`settle`], and [`ahead`](ahead()) for who is ahead.
 //!
 //! ```
 //! use kettleflock::{pass, settle, Answer, Choice, Columns, Plan, Table};
@@ -107,12 +107,14 @@
 pub mod layout;
 pub mod raw;
 
+mod ahead;
 mod pass;
 mod plan;
 mod refusal;
 mod row;
 mod table;
 
+pub use ahead::{ahead, Ahead, Devices};
 pub use layout::Columns;
 pub use pass::{pass, settle, standing, Answer, Choice, Passed, Standing};
 pub use plan::Plan;
@@ -122,8 +124,13 @@ pub use table::Table;
 
 /// The count of a call that succeeded.
 fn succeed(answer: raw::Answer) -> Result<u32, Refusal> {
-    match Refusal::from_number(answer.number) {
-        None => Ok(answer.count),
+    allow(answer.number).map(|()| answer.count)
+}
+
+/// Whether a call with this number succeeded.
+fn allow(number: u32) -> Result<(), Refusal> {
+    match Refusal::from_number(number) {
+        None => Ok(()),
         Some(refusal) => Err(refusal),
     }
 }

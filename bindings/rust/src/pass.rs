@@ -6,32 +6,60 @@ use crate::{number, raw, succeed, Refusal};
 
 /// What a pass says of a row.
 #[derive(Clone, Copy, Debug, PartialEq, Eq, Hash)]
-#[repr(u32)]
+#[non_exhaustive]
 pub enum Answer {
     /// The target's sheet stays.
-    Keep = 0,
+    Keep,
     /// The target has taken the source's sheet.
-    Copy = 1,
+    Copy,
     /// The target's sheet has been removed.
-    Remove = 2,
+    Remove,
     /// Nothing was done: this is to be settled.
-    Conflict = 3,
+    Conflict,
     /// A folder whose children were looked at.
-    Walked = 4,
+    Walked,
     /// A folder with nothing new beneath it.
-    PassedOver = 5,
+    PassedOver,
+    /// A number that this crate has no name for: the library is newer.
+    Unknown(u32),
 }
 
 impl Answer {
-    fn from_number(number: u32) -> Answer {
-        match number {
-            0 => Answer::Keep,
-            1 => Answer::Copy,
-            2 => Answer::Remove,
-            3 => Answer::Conflict,
-            4 => Answer::Walked,
-            5 => Answer::PassedOver,
-            _ => unreachable!("an answer list holds 0 to 5, not {number}"),
+    /// All answers that have a name, by number from 0.
+    pub const ALL: &'static [Answer] = &[
+        Answer::Keep,
+        Answer::Copy,
+        Answer::Remove,
+        Answer::Conflict,
+        Answer::Walked,
+        Answer::PassedOver,
+    ];
+
+    /// The answer of this number in an answer list.
+    ///
+    /// ```
+    /// use kettleflock::Answer;
+    ///
+    /// assert_eq!(Answer::from_number(3), Answer::Conflict);
+    /// assert_eq!(Answer::from_number(1000), Answer::Unknown(1000));
+    /// ```
+    #[must_use]
+    pub fn from_number(number: u32) -> Answer {
+        let named = Answer::ALL.get(number as usize).copied();
+        named.unwrap_or(Answer::Unknown(number))
+    }
+
+    /// The number of this answer.
+    #[must_use]
+    pub fn number(self) -> u32 {
+        match self {
+            Answer::Keep => 0,
+            Answer::Copy => 1,
+            Answer::Remove => 2,
+            Answer::Conflict => 3,
+            Answer::Walked => 4,
+            Answer::PassedOver => 5,
+            Answer::Unknown(number) => number,
         }
     }
 }

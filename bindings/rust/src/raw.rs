@@ -14,7 +14,7 @@
 //!
 //! [`layout`](crate::layout) has the lengths of tables and the places of their words.
 
-/// What every call gives: a refusal's number, or 0, and a count.
+/// What a call gives: a refusal's number, or 0, and a count.
 #[derive(Clone, Copy, Debug, PartialEq, Eq, Hash)]
 #[must_use = "a call may have been refused"]
 #[repr(C)]
@@ -25,11 +25,24 @@ pub struct Answer {
     pub count: u32,
 }
 
+/// What [`ahead`] gives: a refusal's number, or 0, and two masks, in which bit d stands for device d.
+#[derive(Clone, Copy, Debug, PartialEq, Eq, Hash)]
+#[must_use = "a call may have been refused"]
+#[repr(C)]
+pub struct Masks {
+    /// 0, or why the call was refused.
+    pub number: u32,
+    /// The devices of whom the source knows more than the target; 0 on a refusal.
+    pub source: u32,
+    /// The devices of whom the target knows more than the source; 0 on a refusal.
+    pub target: u32,
+}
+
 /// The version of the library that this crate belongs to, as [`version`] gives it.
-pub const VERSION: u32 = 3;
+pub const VERSION: u32 = 4;
 
 mod exports {
-    use super::Answer;
+    use super::{Answer, Masks};
 
     extern "C" {
         pub fn kf_check(table: *const u32, table_length: usize) -> Answer;
@@ -87,6 +100,13 @@ mod exports {
             target_length: usize,
             row: u32,
         ) -> u32;
+        pub fn kf_ahead(
+            source: *const u32,
+            source_length: usize,
+            target: *const u32,
+            target_length: usize,
+            row: u32,
+        ) -> Masks;
         pub fn kf_version() -> u32;
     }
 }
@@ -190,6 +210,20 @@ pub fn standing(source: &[u32], target: &[u32], row: u32) -> Answer {
     // SAFETY: see above.
     unsafe {
         exports::kf_standing(
+            source.as_ptr(),
+            source.len(),
+            target.as_ptr(),
+            target.len(),
+            row,
+        )
+    }
+}
+
+/// Says who is ahead at a sheet where the rules say conflict, by its known times in the source and in the target.
+pub fn ahead(source: &[u32], target: &[u32], row: u32) -> Masks {
+    // SAFETY: see above.
+    unsafe {
+        exports::kf_ahead(
             source.as_ptr(),
             source.len(),
             target.as_ptr(),

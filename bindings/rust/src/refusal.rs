@@ -45,7 +45,7 @@ pub enum Refusal {
     TargetOrder,
     /// The target breaks another rule of the layout or the times.
     TargetRule,
-    /// There is no conflict to settle.
+    /// There is no conflict.
     NoConflict,
     /// The device has no next count.
     CounterFull,
@@ -129,12 +129,15 @@ impl Refusal {
             Refusal::Unfit => (
                 10,
                 "event unfit for the row's kind, or settling a folder; showing a folder as the row \
-                 that stands",
+                 that stands; asking who is ahead at a folder",
             ),
             Refusal::TargetHead => (11, HEAD),
             Refusal::TargetOrder => (12, ORDER),
             Refusal::TargetRule => (13, RULE),
-            Refusal::NoConflict => (14, "settling where the rules don't say conflict"),
+            Refusal::NoConflict => (
+                14,
+                "settling, or asking who is ahead, where the rules don't say conflict",
+            ),
             Refusal::CounterFull => (15, "the counter is 4,294,967,295 and a new stamp is needed"),
             Refusal::NoSuchChoice => (16, "event or choice not 1, 2 or 3"),
             Refusal::NoSuchDevice => (17, "new table's device above 7 (above 15 with 16 columns)"),

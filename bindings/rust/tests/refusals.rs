@@ -5,7 +5,7 @@ mod common;
 use common::table;
 use kettleflock::layout::{head, row};
 use kettleflock::{
-    pass, raw, settle, standing, Choice, Columns, Kind, Plan, Refusal, Stamp, Table,
+    ahead, pass, raw, settle, standing, Answer, Choice, Columns, Kind, Plan, Refusal, Stamp, Table,
 };
 
 const WIDTHS: [Columns; 2] = [Columns::Eight, Columns::Sixteen];
@@ -31,6 +31,15 @@ fn refused(number: u32) -> raw::Answer {
     raw::Answer { number, count: 0 }
 }
 
+/// The same of the call for who is ahead.
+fn nobody_ahead(number: u32) -> raw::Masks {
+    raw::Masks {
+        number,
+        source: 0,
+        target: 0,
+    }
+}
+
 #[test]
 fn numbers_and_names_go_together() {
     let numbers: Vec<u32> = Refusal::ALL.iter().map(|no| no.number()).collect();
@@ -47,6 +56,18 @@ fn a_number_without_a_name_is_told() {
     assert_eq!(refusal, Refusal::Unknown(1000));
     assert_eq!(refusal.number(), 1000);
     assert!(refusal.to_string().ends_with("1000"));
+}
+
+#[test]
+fn answers_and_numbers_go_together() {
+    for (number, &answer) in (0..).zip(Answer::ALL) {
+        assert_eq!(answer.number(), number);
+        assert_eq!(Answer::from_number(number), answer);
+    }
+    for number in [6, 1000, u32::MAX] {
+        assert_eq!(Answer::from_number(number), Answer::Unknown(number));
+        assert_eq!(Answer::Unknown(number).number(), number);
+    }
 }
 
 #[test]
@@ -176,6 +197,9 @@ fn two_tables() {
     assert_eq!(refused(&narrow(1), &mut target, 0), Refusal::OneDevice);
     assert_eq!(refused(&narrow(0), &mut target, 5), Refusal::NoSuchRow);
     assert_eq!(standing(&narrow(0), &target, 1), Err(Refusal::Unfit));
+    assert_eq!(ahead(&narrow(0), &target, 1), Err(Refusal::Unfit));
+    assert_eq!(ahead(&narrow(0), &target, 2), Err(Refusal::NoConflict));
+    assert_eq!(ahead(&narrow(0), &target, 5), Err(Refusal::NoSuchRow));
     assert_eq!(
         settle(&narrow(0), &mut target, 1, Choice::Own),
         Err(Refusal::Unfit)
@@ -199,6 +223,7 @@ fn two_widths() {
         assert_eq!(settled, Err(Refusal::Width));
         assert_eq!(&changed, target);
         assert_eq!(standing(source, target, 9), Err(Refusal::Width));
+        assert_eq!(ahead(source, target, 9), Err(Refusal::Width));
         assert_eq!(raw::standing_side(source.words(), target.words(), 2), 0);
     }
 }
@@ -216,6 +241,7 @@ fn two_widths_come_after_the_target() {
         refused(13)
     );
     assert_eq!(raw::standing(source.words(), &target, 2), refused(13));
+    assert_eq!(raw::ahead(source.words(), &target, 2), nobody_ahead(13));
 }
 
 #[test]

@@ -3,7 +3,9 @@
 mod common;
 
 use common::table;
-use kettleflock::{pass, settle, standing, Answer, Choice, Columns, Passed, Standing, Table};
+use kettleflock::{
+    ahead, pass, settle, standing, Answer, Choice, Columns, Passed, Standing, Table,
+};
 
 fn passed(source: &Table, target: &mut Table) -> Passed {
     pass(source, target, 0).expect("a sound pair")
@@ -87,6 +89,9 @@ fn a_run_goes_on_from_wide_tables_as_from_narrow_ones() {
         standing(&wide_desk, &wide_tablet, 2),
         Ok(Standing::Conflict)
     );
+    let who = ahead(&desk, &tablet, 2).expect("a conflict");
+    assert_eq!((who.source.mask(), who.target.mask()), (0b01, 0b10));
+    assert_eq!(ahead(&wide_desk, &wide_tablet, 2), Ok(who));
     for (source, target) in [(&desk, &mut tablet), (&wide_desk, &mut wide_tablet)] {
         assert_eq!(
             settle(source, target, 2, Choice::New { mark: 703 }),
@@ -100,11 +105,18 @@ fn a_run_goes_on_from_wide_tables_as_from_narrow_ones() {
 fn sixteen_devices() {
     let mut desk = widened(&table(Columns::Eight, 0));
     desk.create(2, 700).expect("a row never used");
-    for device in 1..16 {
-        let mut tablet = table(Columns::Sixteen, device);
-        assert_eq!(passed(&desk, &mut tablet).answer(2), Some(Answer::Copy));
-        assert_eq!(tablet.change(2, 700 + device), Ok(1));
-        assert_eq!(passed(&tablet, &mut desk).answer(2), Some(Answer::Copy));
+    let mut tablets: Vec<Table> = (1..16)
+        .map(|device| table(Columns::Sixteen, device))
+        .collect();
+    for tablet in &mut tablets {
+        assert_eq!(passed(&desk, tablet).answer(2), Some(Answer::Copy));
+        assert_eq!(tablet.change(2, 700 + tablet.device()), Ok(1));
+        assert_eq!(passed(tablet, &mut desk).answer(2), Some(Answer::Copy));
     }
     assert_eq!(desk.row(2).expect("a row").floor()[1..], [1; 15]);
+
+    // The first has heard of none of the later ones, and works on.
+    assert_eq!(tablets[0].change(2, 800), Ok(2));
+    let who = ahead(&desk, &tablets[0], 2).expect("a conflict");
+    assert!(who.source.iter().eq(2..16) && who.target.iter().eq(1..2));
 }

@@ -141,7 +141,7 @@ impl Case {
         let mut answers = [0; MOST_ROWS];
         let [mut changed, mut passed, mut looked_at, mut settled] =
             [(); 4].map(|()| self.target.clone());
-        let calls: [Named; 10] = [
+        let calls: [Named; 11] = [
             ("kf_check", &mut || (PRODUCT.check)(source)),
             ("kf_new", &mut || {
                 (PRODUCT.new)(columns, 1, &self.plan, &mut made)
@@ -166,6 +166,10 @@ impl Case {
             ("kf_standing_side", &mut || Answer {
                 number: 0,
                 count: (PRODUCT.standing_side)(source, &self.target, last),
+            }),
+            ("kf_ahead", &mut || Answer {
+                number: (PRODUCT.ahead)(source, &self.target, last).number,
+                count: 0,
             }),
         ];
         let is_wide = self.width == Width::Wide;

@@ -1,4 +1,6 @@
-// The limits, the paper's marked sheets, the showings, the settlings, removals that meet and the two widths, run and printed.
+// The limits, the paper's marked sheets, the showings, the settlings, who is ahead, removals that meet and the two widths, run
+// and printed.
+mod ahead;
 mod limits;
 mod line;
 mod marked;
@@ -34,6 +36,7 @@ fn main() {
     settled(NEW, CHANGE, 702, 3);
     settled(REMOVED, REMOVE, 0, 3);
     settlings::refused();
+    ahead::told();
     removals::held();
     removals::back();
     widths::made();

@@ -221,7 +221,7 @@ pub record Settle-accepted (w : ℕ) (a b : Table) (row choice mark : ℕ) (out 
     table = written w (settleDone a b row (choiceNamed choice) mark);
   }
 
-conflicts-true : (o : Option Ruling) → conflicts o ≡ true → o ≡ some Conflict
+pub conflicts-true : (o : Option Ruling) → conflicts o ≡ true → o ≡ some Conflict
 conflicts-true none e = absurd (false≢true e)
 conflicts-true (some KeepOwn) e = absurd (false≢true e)
 conflicts-true (some KeepTheirs) e = absurd (false≢true e)
@@ -229,7 +229,7 @@ conflicts-true (some Copy) e = absurd (false≢true e)
 conflicts-true (some Remove) e = absurd (false≢true e)
 conflicts-true (some Conflict) e = refl
 
-map-some : {A B : Type 0} (f : A → B) (o : Option A) (y : B) → Option·map f o ≡ some y → (x : A) × (o ≡ some x) × (f x ≡ y)
+pub map-some : {A B : Type 0} (f : A → B) (o : Option A) (y : B) → Option·map f o ≡ some y → (x : A) × (o ≡ some x) × (f x ≡ y)
 map-some f none y e = let z : _≡_ {A = ℕ} 0 1 = cc in absurd (omega arith)
 map-some f (some x) y e = (x, refl, cc)
 

@@ -11,9 +11,10 @@ use Rattle.paper.specs.Tree.{Forest, later}
 use Rattle.paper.specs.Words.{tableOf}
 use Rattle.paper.specs.Refusals.{first, when, tens, unless}
 use Rattle.paper.specs.Check.{checkOf}
-use Rattle.paper.specs.Calls.{Answered, Changed, Passed, eventRefused, unlike, twoRefused, passRefused, settleRefused, beneathRefused, standingRefused, passOf, settleOf, standingOf, beneathOf}
-use Rattle.paper.specs.Widths.{widthOf, tableAny, checkAny, widenRefused, twoWidths, passAny, settleAny, beneathAny, standingAny}
-use Rattle.laws.proofs.Calls.{event-number, pass-number, settle-number}
+use Rattle.paper.specs.Calls.{Answered, Changed, Passed, Masked, eventRefused, unlike, twoRefused, passRefused, settleRefused, beneathRefused, standingRefused}
+use Rattle.paper.specs.Calls.{passOf, settleOf, standingOf, beneathOf, aheadRefused, aheadOf}
+use Rattle.paper.specs.Widths.{widthOf, tableAny, checkAny, widenRefused, twoWidths, passAny, settleAny, beneathAny, standingAny, aheadAny}
+use Rattle.laws.proofs.Calls.{event-number, pass-number, settle-number, ahead-number}
 use Rattle.laws.proofs.Refusals.{when-false}
 use Rattle.laws.proofs.Widths.{any-good, widen-number, two-any}
 use Rattle.run.specs.Run.{State, Without}
@@ -91,6 +92,7 @@ module _ (n : ℕ) (least : 6 ≤ n) (most : n ≤ 7) where
       widen = λ d wider e. widen′ (s .tables d) wider (sym (widen-number (s .tables d) wider) ∙ e);
       beneath = λ d row. beneath′ (s .tables d) row;
       standing = standing′;
+      ahead = ahead′;
     }
       where
         event′ : (t : List ℕ) (row event : ℕ) → eventRefused (widthOf t) t row event ≡ n → ⊥
@@ -126,3 +128,10 @@ module _ (n : ℕ) (least : 6 ≤ n) (most : n ≤ 7) where
             (unless-not (λ (o : Answered). o .number) (twoWidths (s .tables a) (s .tables b)) _ (standingOf (widthOf (s .tables b)) (s .tables a) (s .tables b) row) refl
             (widths-not (s .tables a) (s .tables b))
             (λ z. unfold standingOf standingRefused in (first-not _ _ (kept-not a b row z) (first-not _ _ (when-not _ 10 (λ e. omega arith)) end-not))))
+
+        ahead′ : (a b row : ℕ) → aheadAny (s .tables a) (s .tables b) row .number ≡ n → ⊥
+        ahead′ a b row = unfold aheadAny in
+            (unless-not (λ (o : Masked). o .number) (twoWidths (s .tables a) (s .tables b)) _ (aheadOf (widthOf (s .tables b)) (s .tables a) (s .tables b) row) refl
+            (widths-not (s .tables a) (s .tables b))
+            (λ z e. unfold aheadRefused in (first-not _ _ (kept-not a b row z) (first-not _ _ (when-not _ 10 (λ e. omega arith)) (first-not _ _ (when-not _ 14 (λ e. omega arith)) end-not)))
+            (sym (ahead-number (widthOf (s .tables b)) (s .tables a) (s .tables b) row) ∙ e)))

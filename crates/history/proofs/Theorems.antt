@@ -21,7 +21,7 @@ use Rattle.paper.specs.Words.{wide, Table, tableOf}
 use Rattle.paper.specs.Refusals.{first, when}
 use Rattle.paper.specs.Check.{checkOf}
 use Rattle.paper.specs.Calls.{Passed, isFolder, oneToThree, eventNamed, lastCount, twoRefused, passOf, passDone, choiceNamed, conflicts}
-use Rattle.paper.specs.Widths.{Width, widthOf, tableAny, checkAny, newAny, widenOf, eventAny, twoWidths, passAny, settleAny}
+use Rattle.paper.specs.Widths.{Width, widthOf, tableAny, checkAny, newAny, widenOf, eventAny, twoWidths, passAny, settleAny, aheadAny}
 use Rattle.laws.proofs.Tables.{check-facts, checked-written}
 use Rattle.laws.proofs.Widths.{width-either, width-written, widened, widen-same, pass-any}
 use Rattle.laws.proofs.Forests.{shape}
@@ -40,6 +40,7 @@ use Rattle.history.proofs.CallsOnWords.{pass-sound, pass-folder, pass-e
 use Rattle.history.proofs.ToldByHistory.{event-told, settle-told, made-past}
 use Rattle.history.proofs.LateCounts.{kept-without}
 use Rattle.history.proofs.EveryRun.{begun-kept, run-kept}
+use Rattle.history.proofs.WhoIsAhead.{told-ahead}
 
 -- the invariant after a run, for the proofs of 1 and 2
 kept : (columns : ℕ → ℕ) (plan : List ℕ) (lent : ℕ → List ℕ) → Makes columns plan lent → (steps : List Step) → Kept (shape (planRows devices plan)) (ran columns plan lent steps)
@@ -242,3 +243,7 @@ told columns plan lent makes steps =
     let s = ran columns plan lent steps in
     let k = kept columns plan lent makes steps in
     record { event = event-told columns plan lent makes s k; settle = settle-told columns plan lent makes s k; made = made-past columns plan lent makes s k }
+
+-- 8. WHO IS AHEAD, with no run: where it is told, which is in a conflict, each side is ahead of the other in some column.
+pub both-ahead : (s t : List ℕ) (row : ℕ) → aheadAny s t row .number ≡ 0 → (0 < aheadAny s t row .source) × (0 < aheadAny s t row .target)
+both-ahead = told-ahead

@@ -13,14 +13,16 @@ use contract.Lifetimes.{Lfts}
 use contract.Monad.{Fun, fact, factI, fact-use, conj, conjL, conjR}
 use denote.Triple.Entry.{Args, Res}
 use denote.Triple.Clauses.{Ended, Clauses, Lasts, AtExit, atExit}
-use Rattle.paper.specs.Calls.{Answered, Changed, Passed}
+use Rattle.paper.specs.Calls.{Answered, Changed, Passed, Masked}
 use Rattle.paper.specs.declared.Answer.{Answer}
+use Rattle.paper.specs.declared.Masks.{Masks}
 use Rattle.kettleflock.proofs.check as check
 use Rattle.kettleflock.proofs.new as new
 use Rattle.kettleflock.proofs.widen as widen
 use Rattle.kettleflock.proofs.event as event
 use Rattle.kettleflock.proofs.passing.pass as pass
 use Rattle.kettleflock.proofs.settling.settle as settle
+use Rattle.kettleflock.proofs.settling.ahead as ahead
 use Rattle.kettleflock.proofs.showing.beneath_answer as beneath-answer
 use Rattle.kettleflock.proofs.showing.standing_answer as standing-answer
 use Rattle.kettleflock.proofs.showing.standing_side as standing-side
@@ -36,6 +38,7 @@ use Rattle.kettleflock.proofs.exports.kf_settle as kf-settle
 use Rattle.kettleflock.proofs.exports.kf_beneath as kf-beneath
 use Rattle.kettleflock.proofs.exports.kf_standing as kf-standing
 use Rattle.kettleflock.proofs.exports.kf_standing_side as kf-standing-side
+use Rattle.kettleflock.proofs.exports.kf_ahead as kf-ahead
 
 -- of a function: the lifetimes it is called at, and what two results have to have in common
 abbrev pub Lives : Ended → Type 0
@@ -65,6 +68,7 @@ module _ {M : Type 1} (𝓤 : URA M) where
       pub event : One event.ended (event.clauses 𝓤 H A m f)
       pub pass : One pass.ended (pass.clauses 𝓤 H A m f)
       pub settle : One settle.ended (settle.clauses 𝓤 H A m f)
+      pub ahead : One ahead.ended (ahead.clauses 𝓤 H A m f)
       pub beneath-answer : One beneath-answer.ended (beneath-answer.clauses 𝓤 H A m f)
       pub standing-answer : One standing-answer.ended (standing-answer.clauses 𝓤 H A m f)
       pub standing-side : One standing-side.ended (standing-side.clauses 𝓤 H A m f)
@@ -80,6 +84,7 @@ module _ {M : Type 1} (𝓤 : URA M) where
       pub kf-beneath : One kf-beneath.ended (kf-beneath.clauses 𝓤 H A m f)
       pub kf-standing : One kf-standing.ended (kf-standing.clauses 𝓤 H A m f)
       pub kf-standing-side : One kf-standing-side.ended (kf-standing-side.clauses 𝓤 H A m f)
+      pub kf-ahead : One kf-ahead.ended (kf-ahead.clauses 𝓤 H A m f)
 
   -- a contract that asks nothing and promises the plain fact F
   plain : (T : Ended) (Like : Alike T) (F : (κs : Lives T) → Args (T .signature) κs → Res (T .signature) κs → AtExit T κs → Type 0)
@@ -110,6 +115,9 @@ changed o = record { number = o .number; count = o .count }
 abbrev passed : Passed → Answer
 passed o = record { number = o .number; count = o .count }
 
+abbrev masked : Masked → Masks
+masked o = record { number = o .number; source = o .source; target = o .target }
+
 abbrev side : ℕ → ℕ
 side o = o
 
@@ -121,6 +129,7 @@ one-outcome 𝓤 H A m f = record {
   event = plain 𝓤 _ _ _ (λ κs a x y u v. by changed (λ o. (o .table, (tt, (tt, (tt, tt))))));
   pass = plain 𝓤 _ _ _ (λ κs a x y u v. by passed (λ o. (tt, (o .target, (tt, (o .answers, tt))))));
   settle = plain 𝓤 _ _ _ (λ κs a x y u v. by changed (λ o. (tt, (o .table, (tt, (tt, (tt, tt)))))));
+  ahead = plain 𝓤 _ _ _ (λ κs a x y u v. by masked (λ o. (tt, (tt, (tt, tt)))));
   beneath-answer = plain 𝓤 _ _ _ (λ κs a x y u v. by answered (λ o. (tt, (tt, tt))));
   standing-answer = plain 𝓤 _ _ _ (λ κs a x y u v. by answered (λ o. (tt, (tt, (tt, tt)))));
   standing-side = plain 𝓤 _ _ _ (λ κs a x y u v. by side (λ o. (tt, (tt, (tt, tt)))));
@@ -136,4 +145,5 @@ one-outcome 𝓤 H A m f = record {
   kf-beneath = plain 𝓤 _ _ _ (λ κs a x y u v. by answered (λ o. (tt, (tt, tt))));
   kf-standing = plain 𝓤 _ _ _ (λ κs a x y u v. by answered (λ o. (tt, (tt, (tt, tt)))));
   kf-standing-side = plain 𝓤 _ _ _ (λ κs a x y u v. by side (λ o. (tt, (tt, (tt, tt)))));
+  kf-ahead = plain 𝓤 _ _ _ (λ κs a x y u v. by masked (λ o. (tt, (tt, (tt, tt)))));
 }

@@ -1,22 +1,25 @@
 -- Laws of the calls: the number returned is the refusal's; a refused call leaves its buffers as they were; what two
 -- tables that are accepted are like.
 use Prim.Native.Nat.{ℕ, suc, _≤_, _<_}
-use mathlib.Core.Path.{_≡_, _∙_}
+use mathlib.Core.Path.{_≡_, refl, ap, _∙_}
 use mathlib.Core.List.{List, [], _∷_}
 use mathlib.Core.Bool.{Bool, true, false, cond}
 use native.Mathlib.Omega.{arith}
 use borrow.Author.Tests.{eqb-true, eqb-false, leb-false}
 use lib.ListN.{length}
-use Rattle.paper.specs.Tree.{size, subtree, shaped, above, later}
-use Rattle.paper.specs.Walk.{answers, looked}
+use mathlib.Core.Option.{Option, none, some, Option·map}
+use Rattle.paper.specs.Tree.{size, subtree, sheetHere, shaped, Sheet, above, later}
+use Rattle.paper.specs.Walk.{Two, answers, looked}
 use Rattle.paper.specs.Acts.{stamps}
-use Rattle.paper.specs.Words.{tableOf, written}
-use Rattle.paper.specs.Refusals.{first, when, tens}
+use Rattle.paper.specs.Words.{Table, tableOf, written}
+use Rattle.paper.specs.Refusals.{first, when, tens, unless}
 use Rattle.paper.specs.Check.{checkOf}
 use Rattle.paper.specs.Good.{GoodTable}
 use Rattle.paper.specs.Calls.{Changed, Passed, newRefused, newOf, eventNamed, eventRefused, eventDone, eventOf}
 use Rattle.paper.specs.Calls.{unlike, twoRefused, pairAt, passRefused, passDone, passOf, choiceNamed, settleRefused, settleDone, settleOf}
+use Rattle.paper.specs.Calls.{Masked, rulingHere, isFolder, conflicts, noMasks, aheadRefused, aheadSheet, aheadHere, masksOf, aheadOf}
 use Rattle.laws.proofs.Refusals.{first-both, when-none, none-so, tens-none, unless-none, unless-some, unless-at, unless-number}
+use Rattle.laws.proofs.Forests.{mapped-here}
 use Rattle.laws.proofs.Tables.{check-facts, checked-good, checked-written}
 
 -- THE NUMBER is 0 exactly where nothing refuses
@@ -36,6 +39,21 @@ pass-number w s t row list = unless-at (λ (o : Passed). o .number) (passRefused
 pub settle-number : (w : ℕ) (s t : List ℕ) (row choice mark : ℕ) → settleOf w s t row choice mark .number ≡ settleRefused w s t row choice
 unfolding settleOf
 settle-number w s t row choice mark = unless-at (λ (o : Changed). o .number) (settleRefused w s t row choice) _ _ ∙ unless-number (settleRefused w s t row choice)
+
+-- the masks come with the number 0
+masks-number : (w : ℕ) (a b : Table) (row : ℕ) → masksOf (aheadHere w a b row) .number ≡ 0
+unfolding aheadHere aheadSheet
+masks-number w a b row = ap (λ o. masksOf o .number) (mapped-here _ _ (pairAt a b row)) ∙ go (sheetHere (pairAt a b row))
+  where
+    go : (o : Option (Two Sheet)) → masksOf (Option·map (aheadSheet w (a .clock) (b .clock) (above (a .tree) row) (above (b .tree) row)) o) .number ≡ 0
+    go none = refl
+    go (some x) = refl
+
+pub ahead-number : (w : ℕ) (s t : List ℕ) (row : ℕ) → aheadOf w s t row .number ≡ aheadRefused w s t row
+unfolding aheadOf
+ahead-number w s t row =
+    let no = aheadRefused w s t row in
+    unless-at (λ (o : Masked). o .number) no _ _ ∙ ap (unless no no) (masks-number w (tableOf w s) (tableOf w t) row) ∙ unless-number no
 
 -- A REFUSAL has the count 0 and changes no word
 
@@ -59,6 +77,10 @@ pass-refused w s t row list h = unless-some (passRefused w s t row list) _ _ h
 pub settle-refused : (w : ℕ) (s t : List ℕ) (row choice mark : ℕ) → (settleRefused w s t row choice ≡ 0 → ⊥) → settleOf w s t row choice mark ≡ kept (settleRefused w s t row choice) t
 unfolding settleOf
 settle-refused w s t row choice mark h = unless-some (settleRefused w s t row choice) _ _ h
+
+pub ahead-refused : (w : ℕ) (s t : List ℕ) (row : ℕ) → (aheadRefused w s t row ≡ 0 → ⊥) → aheadOf w s t row ≡ noMasks (aheadRefused w s t row)
+unfolding aheadOf
+ahead-refused w s t row h = unless-some (aheadRefused w s t row) _ _ h
 
 -- THE WORK where nothing refuses
 
@@ -89,6 +111,10 @@ pub settle-done : (w : ℕ) (s t : List ℕ) (row choice mark : ℕ) → settleR
     }
 unfolding settleOf
 settle-done w s t row choice mark e = unless-none (settleRefused w s t row choice) _ _ e
+
+pub ahead-done : (w : ℕ) (s t : List ℕ) (row : ℕ) → aheadRefused w s t row ≡ 0 → aheadOf w s t row ≡ masksOf (aheadHere w (tableOf w s) (tableOf w t) row)
+unfolding aheadOf
+ahead-done w s t row e = unless-none (aheadRefused w s t row) _ _ e
 
 -- a check gives at most 3
 three-small : (a b c : Bool) → first (when a 1 ∷ when b 2 ∷ when c 3 ∷ []) ≤ 3
@@ -145,3 +171,16 @@ unfolding passRefused
 pass-accepted w s t row list e =
     let two = first-both (twoRefused w s t row) _ e in
     (two-accepted w s t row (two .0), eqb-true _ _ (none-so _ 8 (first-both _ _ (two .1) .0)))
+
+-- who is ahead can be told: the two tables are accepted, and the rules say conflict at a sheet
+pub record Ahead-accepted (w : ℕ) (s t : List ℕ) (row : ℕ) : Type 0 where
+  pub two : twoRefused w s t row ≡ 0
+  pub sheet : isFolder (rulingHere (tableOf w s) (tableOf w t) row) ≡ false
+  pub conflict : conflicts (rulingHere (tableOf w s) (tableOf w t) row) ≡ true
+
+pub ahead-accepted : (w : ℕ) (s t : List ℕ) (row : ℕ) → aheadRefused w s t row ≡ 0 → Ahead-accepted w s t row
+unfolding aheadRefused
+ahead-accepted w s t row e =
+    let x = first-both (twoRefused w s t row) _ e in
+    let y = first-both _ _ (x .1) in
+    record { two = x .0; sheet = when-none _ 9 (y .0); conflict = none-so _ 13 (first-both _ _ (y .1) .0) }

@@ -2,15 +2,16 @@
 use Prim.Native.Nat.{ℕ, zero, suc, _+_, _≤_, _<_, max}
 use mathlib.Core.Path.{_≡_, refl, sym, ap, ap₂, _∙_, fun-ext}
 use mathlib.Core.List.{List, _∷_}
-use mathlib.Core.Bool.{Bool, true, false, _&&_, cond, false≢true}
+use mathlib.Core.Bool.{Bool, true, false, _&&_, cond}
 use native.Mathlib.Omega.{arith}
-use lib.Dec.{leb, eqb}
-use borrow.Author.Tests.{eqb-true, eqb-false, eq-eqb, leb-true, leb-false, le-leb}
+use lib.Dec.{leb, ltb, eqb}
+use borrow.Author.Tests.{eqb-true, eq-eqb, leb-true, leb-false, ltb-false, le-ltb}
 use lib.ListN.{length, getD, take, drop, replicate, length-take, length-drop, List·getD-eq-default}
 use lib.Seq.{ext-getD, length-take-le}
 use Rattle.paper.specs.declared.Clock.{Clock}
-use Rattle.paper.specs.Columns.{Vec, zeros, full, every, covered, alike, Narrow, vec, part, columns}
+use Rattle.paper.specs.Columns.{Vec, zeros, full, ahead, covered, alike, Narrow, vec, part, columns}
 use Rattle.laws.proofs.Bools.{and-both, both-and}
+use Rattle.laws.proofs.Masks.{mask-none, none-mask, mask-same}
 
 -- WORDS
 
@@ -59,56 +60,40 @@ columns-part w i words h = columns-vec w (take w (drop i words)) (part-length w 
 
 -- COMPARING
 
--- a test of every column is a test of each
-pub every-at : (w : ℕ) (test : ℕ → Bool) → every w test ≡ true → (j : ℕ) → j < w → test j ≡ true
-unfolding every
-every-at zero test e j h = absurd (omega arith)
-every-at (suc w) test e j h = let a = and-both (test w) _ e in go (eqb j w) refl (a .0) (every-at w test (a .1))
-  where
-    go : (t : Bool) → eqb j w ≡ t → test w ≡ true → ((j : ℕ) → j < w → test j ≡ true) → test j ≡ true
-    go true e z k = ap test (eqb-true j w e) ∙ z
-    go false e z k = k j (omega (arith, eqb-false j w e))
-
-pub at-every : (w : ℕ) (test : ℕ → Bool) → ((j : ℕ) → j < w → test j ≡ true) → every w test ≡ true
-unfolding every
-at-every zero test h = refl
-at-every (suc w) test h = both-and (h w (omega arith)) (at-every w test (λ j l. h j (omega arith)))
-
--- one column where the test fails decides
-pub every-not : (w : ℕ) (test : ℕ → Bool) (j : ℕ) → j < w → test j ≡ false → every w test ≡ false
-every-not w test j h e = go (every w test) refl
-  where
-    go : (t : Bool) → every w test ≡ t → t ≡ false
-    go true q = absurd (false≢true (sym e ∙ every-at w test q j h))
-    go false q = refl
-
--- tests that agree in w columns
-pub every-same : (w : ℕ) (s t : ℕ → Bool) → ((j : ℕ) → j < w → s j ≡ t j) → every w s ≡ every w t
-unfolding every
-every-same zero s t h = refl
-every-same (suc w) s t h = ap₂ _&&_ (h w (omega arith)) (every-same w s t (λ j l. h j (omega arith)))
-
+-- covered: nobody is ahead
 pub covered-at : (w : ℕ) (u v : Vec) → covered w u v ≡ true → (j : ℕ) → j < w → u j ≤ v j
-covered-at w u v e j h = leb-true _ _ (every-at w (λ j. leb (u j) (v j)) e j h)
+covered-at w u v e j h = ltb-false (v j) (u j) (mask-none w (λ j. ltb (v j) (u j)) (eqb-true _ _ e) j h)
 
 pub at-covered : (w : ℕ) (u v : Vec) → ((j : ℕ) → j < w → u j ≤ v j) → covered w u v ≡ true
-at-covered w u v h = at-every w (λ j. leb (u j) (v j)) (λ j l. le-leb _ _ (h j l))
+at-covered w u v h = eq-eqb _ _ (none-mask w (λ j. ltb (v j) (u j)) (λ j l. le-ltb (v j) (u j) (h j l)))
 
+-- a column that is greater is in the mask, so the mask is not 0
+pub ahead-some : (w : ℕ) (u v : Vec) (j : ℕ) → j < w → v j < u j → 0 < ahead w u v
+ahead-some w u v j h l = go (ahead w u v) refl
+  where
+    go : (n : ℕ) → ahead w u v ≡ n → 0 < n
+    go zero e = absurd (omega (arith, l, covered-at w u v (eq-eqb _ _ e) j h))
+    go (suc n) e = omega arith
+
+-- alike: neither is ahead of the other
 pub alike-at : (w : ℕ) (u v : Vec) → alike w u v ≡ true → (j : ℕ) → j < w → u j ≡ v j
-alike-at w u v e j h = eqb-true _ _ (every-at w (λ j. eqb (u j) (v j)) e j h)
+alike-at w u v e j h = let a = and-both (covered w u v) _ e in omega (arith, covered-at w u v (a .0) j h, covered-at w v u (a .1) j h)
 
 pub at-alike : (w : ℕ) (u v : Vec) → ((j : ℕ) → j < w → u j ≡ v j) → alike w u v ≡ true
-at-alike w u v h = at-every w (λ j. eqb (u j) (v j)) (λ j l. eq-eqb _ _ (h j l))
+at-alike w u v h = both-and (at-covered w u v (λ j l. omega (arith, h j l))) (at-covered w v u (λ j l. omega (arith, h j l)))
 
 -- only the first w columns are compared, and written
 pub record Same (w : ℕ) (u v : Vec) : Type 0 where
   pub at : (j : ℕ) → j < w → u j ≡ v j
 
+pub ahead-same : (w : ℕ) (u u′ v v′ : Vec) → Same w u u′ → Same w v v′ → ahead w u v ≡ ahead w u′ v′
+ahead-same w u u′ v v′ h k = mask-same w _ _ (λ j l. ap₂ ltb (k .at j l) (h .at j l))
+
 pub covered-same : (w : ℕ) (u u′ v v′ : Vec) → Same w u u′ → Same w v v′ → covered w u v ≡ covered w u′ v′
-covered-same w u u′ v v′ h k = every-same w _ _ (λ j l. ap₂ leb (h .at j l) (k .at j l))
+covered-same w u u′ v v′ h k = ap (λ n. eqb n 0) (ahead-same w u u′ v v′ h k)
 
 pub alike-same : (w : ℕ) (u u′ v v′ : Vec) → Same w u u′ → Same w v v′ → alike w u v ≡ alike w u′ v′
-alike-same w u u′ v v′ h k = every-same w _ _ (λ j l. ap₂ eqb (h .at j l) (k .at j l))
+alike-same w u u′ v v′ h k = ap₂ _&&_ (covered-same w u u′ v v′ h k) (covered-same w v v′ u u′ k h)
 
 pub full-same : (w : ℕ) (c : Clock) (u v v′ : Vec) → Same w v v′ → Same w (full c u v) (full c u v′)
 full-same w c u v v′ h = record { at = λ j l. ap (λ x. cond (eqb j (c .device)) (c .counter) (max (u j) x)) (h .at j l) }

@@ -1,4 +1,5 @@
 pub mod Bools
+pub mod Masks
 pub mod Columns
 pub mod Order
 pub mod Forests

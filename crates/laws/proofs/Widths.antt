@@ -21,8 +21,9 @@ use Rattle.paper.specs.Words.{wide, Table, tableOf, sign, written}
 use Rattle.paper.specs.Refusals.{first, when, tens, unless}
 use Rattle.paper.specs.Check.{proper, laid, checkOf}
 use Rattle.paper.specs.Good.{GoodFloor, Good, GoodTable}
-use Rattle.paper.specs.Calls.{Changed, Passed, newOf, twoRefused, passOf, rulingHere, settleOf}
-use Rattle.paper.specs.Widths.{narrowColumns, wideColumns, Width, widthOf, tableAny, checkAny, eightOrSixteen, newAny, widenRefused, widenOf, twoWidths, widthsThen, twoRefusedAny, passAny, settleAny}
+use Rattle.paper.specs.Calls.{Changed, Passed, Masked, newOf, twoRefused, passOf, rulingHere, settleOf, aheadRefused, aheadHere, masksOf, aheadOf}
+use Rattle.paper.specs.Widths.{narrowColumns, wideColumns, Width, widthOf, tableAny, checkAny, eightOrSixteen, newAny, widenRefused, widenOf}
+use Rattle.paper.specs.Widths.{twoWidths, widthsThen, twoRefusedAny, passAny, settleAny, aheadAny}
 use Rattle.laws.proofs.Bools.{and-both, both-and}
 use Rattle.laws.proofs.Refusals.{first-both, first-next, first-one, first-flat, first-within, none-so, when-none, tens-none, unless-none, unless-some, unless-at, unless-number}
 use Rattle.laws.proofs.Tables.{sign-at, table-read, written-passes, check-facts, checked-good, checked-size}
@@ -260,3 +261,16 @@ unfolding settleAny
 settle-any s t row choice mark e =
     let x = unless-first (twoWidths s t) (λ (o : Changed). o .number) _ (settleOf (widthOf t) s t row choice mark) refl e in
     record { two = two-any s t (x .0); same = x .1 }
+
+pub record Ahead-any (s t : List ℕ) (row : ℕ) : Type 0 where
+  pub two : Two-any s t
+  pub accepted : aheadRefused (widthOf t) s t row ≡ 0
+  pub same : aheadAny s t row ≡ aheadOf (widthOf t) s t row
+
+pub ahead-any : (s t : List ℕ) (row : ℕ) → aheadAny s t row .number ≡ 0 → Ahead-any s t row
+unfolding aheadAny aheadOf
+ahead-any s t row e =
+    let w = widthOf t in
+    let x = unless-first (twoWidths s t) (λ (o : Masked). o .number) _ (aheadOf w s t row) refl e in
+    let y = unless-first (aheadRefused w s t row) (λ (o : Masked). o .number) _ (masksOf (aheadHere w (tableOf w s) (tableOf w t) row)) refl (sym (ap (λ (o : Masked). o .number) (x .1)) ∙ e) in
+    record { two = two-any s t (x .0); accepted = y .0; same = x .1 }

@@ -1,4 +1,4 @@
--- The three events, the three settlings and a widening, at the words, by computation: of each, the number and count returned, the
+-- The three events, the three settlings, a widening and who is ahead, at the words, by computation: of each, the number and count returned, the
 -- clock afterwards, the row's first sixteen words (its floor is the last eight of them), and the table's check.
 use Prim.Native.Nat.{ℕ, _*_}
 use mathlib.Core.Path.{_≡_, refl}
@@ -6,9 +6,9 @@ use mathlib.Core.List.{List, [], _∷_, _++_}
 use lib.ListN.{take, replicate}
 use Rattle.paper.specs.Words.{wide, tableOf}
 use Rattle.paper.specs.Check.{checkOf}
-use Rattle.paper.specs.Calls.{Changed, rowAt}
-use Rattle.paper.specs.Widths.{eventAny, settleAny, widenOf}
-use Rattle.paper.proofs.Play.{Step, event, pass, Desk, narrow, table, play, played}
+use Rattle.paper.specs.Calls.{Changed, Masked, rowAt}
+use Rattle.paper.specs.Widths.{eventAny, settleAny, widenOf, aheadAny}
+use Rattle.paper.proofs.Play.{Step, event, pass, Desk, fresh, narrow, table, play, played}
 
 record Outcome : Type 0 where
   number : ℕ
@@ -102,3 +102,21 @@ widening : wider (widenOf (table (play narrow created) 0) (replicate (6 * wide 1
     ≡ record { number = 0; count = 5; check = 0; row = 1 ∷ 1 ∷ 0 ∷ 1 ∷ 0 ∷ 1 ∷ 700 ∷ replicate 65 0 }
 unfolding wider created played
 widening = refl
+
+-- WHO IS AHEAD, of devices 0 and 1 at row 2: both have changed it; each has created its own, and 1 has heard of device 2;
+-- with sixteen columns, devices 15 and 8 have; device 0 alone has, which is no conflict
+asked : Desk → Masked
+asked k = aheadAny (table k 0) (table k 1) 2
+
+heard-of-two : List Step
+heard-of-two = event 2 3 1 708 ∷ pass 2 1 0 ∷ created-both
+
+who : List Masked
+who = asked (play narrow changed-both) ∷ asked (play narrow heard-of-two) ∷ asked (play (fresh 16 (15 ∷ 8 ∷ 3 ∷ [])) created-both) ∷ asked (play narrow created) ∷ []
+
+masks : ℕ → ℕ → ℕ → Masked
+masks n a b = record { number = n; source = a; target = b }
+
+who-is-ahead : who ≡ masks 0 1 2 ∷ masks 0 1 6 ∷ masks 0 32768 256 ∷ masks 14 0 0 ∷ []
+unfolding who asked masks heard-of-two created changed-both created-both played
+who-is-ahead = refl

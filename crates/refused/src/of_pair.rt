@@ -1,4 +1,4 @@
-// What refuses two tables and a row: a pass, a settling, a showing of the row that stands.
+// What refuses two tables and a row: a pass, a settling, the question who is ahead.
 use crate::is_one_to_three;
 use table::check::check;
 use table::head::clock_of;
@@ -14,7 +14,7 @@ ghost use Rattle.paper.specs.Acts.{stamps};
 ghost use Rattle.paper.specs.Words.{tableOf};
 ghost use Rattle.paper.specs.Check.{checkOf};
 ghost use Rattle.paper.specs.Calls.{unlike, choiceNamed};
-ghost use Rattle.paper.specs.Widths.{twoRefusedAny, passRefusedAny, settleRefusedAny};
+ghost use Rattle.paper.specs.Widths.{twoRefusedAny, passRefusedAny, settleRefusedAny, aheadRefusedAny};
 ghost use Rattle.paper.specs.Devices.{devices};
 
 // 4 to 8, for tables that pass the check.
@@ -109,6 +109,24 @@ pub fn settle_refused(source: &[u32], target: &[u32], row: u32, choice: u32) -> 
         if target[Head::COUNTER] == Head::LAST_COUNT {
             return 15;
         }
+    }
+    0
+}
+
+// As a settling, without 16 and 15: then a mask for each side can be told.
+pub fn ahead_refused(source: &[u32], target: &[u32], row: u32) -> u32
+    ensures { λ r. ⌜ r ≡ aheadRefusedAny (now (source .entry)) (now (target .entry)) row ⌝ }
+{
+    let number = two_refused(source, target, row);
+    if number != 0 {
+        return number;
+    }
+    let said = ruling_at(source, target, row as usize, columns_of(target));
+    if said.is_folder() {
+        return 10;
+    }
+    if !said.is_conflict() {
+        return 14;
     }
     0
 }

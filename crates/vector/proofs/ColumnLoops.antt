@@ -1,26 +1,53 @@
 -- Laws of vectors, for any width: what a test column by column has found, and how a vector is made.
-use Prim.Native.Nat.{ℕ, zero, suc, _+_, _≤_, _<_, max}
-use mathlib.Core.Path.{_≡_, refl, sym, ap, subst, _∙_, fun-ext}
+use Prim.Native.Nat.{ℕ, zero, suc, _+_, _^_, _≤_, _<_, max}
+use mathlib.Core.Path.{_≡_, refl, sym, ap, ap₂, subst, _∙_, fun-ext}
 use mathlib.Core.List.{List, _++_, append-nil}
-use mathlib.Core.Bool.{Bool, true, false, _&&_, cond}
+use mathlib.Core.Bool.{Bool, true, false, not, cond, false≢true}
 use native.Mathlib.Numerals.{add-one}
 use native.Mathlib.Omega.{arith}
 use lib.Dec.{leb, eqb}
-use borrow.Author.Tests.{lt-leb, ne-eqb, eqb-true, eqb-false}
+use lib.Pow.{pow-add, pow-mono}
+use borrow.Author.Tests.{lt-leb, eq-eqb, ne-eqb, eqb-true, eqb-false}
 use lib.ListN.{length, getD, take, drop, replicate, set, drop-of-length-le, List·getD-eq-default}
 use lib.Seq.{getD-take, getD-drop, getD-set-same, getD-set-other, take-all}
-use Rattle.paper.specs.Columns.{Vec, Narrow, zeros, greatest, vec, column, columns, part, every}
-use Rattle.laws.proofs.Columns.{length-columns, vec-columns, columns-same, columns-part, part-length}
+use Rattle.paper.specs.Columns.{Vec, Narrow, zeros, greatest, vec, column, columns, part, mask, alike}
+use Rattle.laws.proofs.Bools.{not-so}
+use Rattle.laws.proofs.Masks.{mask-below, mask-none, none-mask}
+use Rattle.laws.proofs.Columns.{alike-at, at-alike, length-columns, vec-columns, columns-same, columns-part, part-length}
 use Rattle.vector.specs.Places.{put}
 
--- a test of no columns, and of one more
-pub every-none : (test : ℕ → Bool) → every 0 test ≡ true
-unfolding every
-every-none test = refl
+-- a mask of no columns, and of one more: its bit is a power of two, and there is room for it
+pub mask-start : (test : ℕ → Bool) → mask 0 test ≡ 0
+unfolding mask
+mask-start test = refl
 
-pub every-more : (test : ℕ → Bool) (i : ℕ) {all : Bool} → all ≡ every i test → (test i && all) ≡ every (i + 1) test
-unfolding every
-every-more test i e = rw (add-one, e)
+pub mask-more : (test : ℕ → Bool) (i : ℕ) {m b : ℕ} → m ≡ mask i test → b ≡ 2 ^ i → m + cond (test i) b 0 ≡ mask (i + 1) test
+unfolding mask
+mask-more test i {m} {b} p q = rw (add-one) (ap₂ (λ (x y : ℕ). x + cond (test i) y 0) p q ∙ omega arith)
+
+pub bit-more : (i : ℕ) {b : ℕ} → b ≡ 2 ^ i → b + b ≡ 2 ^ (i + 1)
+bit-more i q = omega (arith, q, pow-add 2 i 1)
+
+pub bit-room : (i w : ℕ) {b : ℕ} → b ≡ 2 ^ i → i ≤ w → b ≤ 2 ^ w
+bit-room i w q h = omega (arith, q, pow-mono h)
+
+pub mask-room : (test : ℕ → Bool) (i w : ℕ) {m b : ℕ} → m ≡ mask i test → b ≡ 2 ^ i → i < w → m + cond (test i) b 0 < 2 ^ w
+mask-room test i w p q h = omega (arith, mask-more test i p q, mask-below (i + 1) test, pow-mono {i = i + 1} {j = w} (omega arith))
+
+-- neither is ahead of the other where no column differs
+pub differ-alike : (w : ℕ) (u v : Vec) → eqb (mask w (λ j. not (eqb (u j) (v j)))) 0 ≡ alike w u v
+differ-alike w u v = go (alike w u v) refl
+  where
+    test : ℕ → Bool
+    test j = not (eqb (u j) (v j))
+
+    not-not : (b : Bool) → not b ≡ false → b ≡ true
+    not-not true e = refl
+    not-not false e = absurd (false≢true (sym e))
+
+    go : (b : Bool) → alike w u v ≡ b → eqb (mask w test) 0 ≡ b
+    go true e = eq-eqb _ _ (none-mask w test (λ j l. ap not (eq-eqb _ _ (alike-at w u v e j l))))
+    go false e = not-so _ (λ z. false≢true (sym e ∙ at-alike w u v (λ j l. eqb-true _ _ (not-not _ (mask-none w test (eqb-true _ _ z) j l)))))
 
 -- a column that is set
 pub column-set : (a : List ℕ) (d n : ℕ) → d < length a → vec (set a d n) ≡ column d n (vec a)

@@ -1,4 +1,4 @@
--- The sheet at a row of a table, by the row's words, and the ruling at a row of two tables.
+-- The sheet at a row of a table, by the row's words, and the ruling and the masks at a row of two tables.
 use Prim.Native.Nat.{ℕ, zero, suc, _+_, _-_, _*_, _<_}
 use mathlib.Core.Path.{_≡_, refl, sym, ap, ap₂, _∙_}
 use mathlib.Core.List.{List, [], _++_}
@@ -6,22 +6,22 @@ use mathlib.Core.Bool.{Bool, true, false, cond, false≢true}
 use mathlib.Core.Option.{Option, none, some, Option·map}
 use native.Mathlib.Omega.{arith}
 use lib.Dec.{ltb, eqb}
-use borrow.Author.Tests.{ltb-true, ltb-false, eq-eqb, ne-eqb}
+use borrow.Author.Tests.{ltb-true, ltb-false, eq-eqb, ne-eqb, eqb-false}
 use lib.ListN.{length, getD, drop, List·getD-append}
 use lib.Seq.{getD-append-add}
-use Rattle.paper.specs.Columns.{Vec, full, covers}
+use Rattle.paper.specs.Columns.{Vec, full, covers, ahead}
 use Rattle.paper.specs.Rules.{ruling}
 use Rattle.paper.specs.Tree.{end, sheet, folder, size, subtree, sheetHere, shaped, Sheet, above}
 use Rattle.paper.specs.Order.{kindWord, Raw, forestOf}
 use Rattle.paper.specs.Walk.{Two, ruleAt}
 use Rattle.paper.specs.Words.{wide, rowOf, floorOf, sheetOf, tableOf}
 use Rattle.paper.specs.Check.{checkOf}
-use Rattle.paper.specs.Calls.{rowAt, pairAt, rulingHere, isFolder}
+use Rattle.paper.specs.Calls.{Masked, rowAt, pairAt, rulingHere, isFolder, aheadSheet, aheadHere, masksOf}
 use Rattle.laws.proofs.FormedRows.{Formed, ordered-formed}
 use Rattle.laws.proofs.Forests.{mapped-size}
 use Rattle.laws.proofs.Tables.{checked-size, check-facts}
 use Rattle.two.proofs.Listed.{listed, length-listed, rows-at, rows-all, word-at}
-use Rattle.verdict.proofs.Zipped.{mapped-at, side-left, side-right, ruling-pair, ruling-folder}
+use Rattle.verdict.proofs.Zipped.{mapped-at, side-left, side-right, ruling-pair, ahead-pair, ruling-folder}
 
 -- no sheet
 folder-none : {X : Type 0} (o : Option X) → isFolder o ≡ true → none ≡ o
@@ -90,20 +90,36 @@ module _ (w : ℕ) (s t : List ℕ) (p : checkOf w s ≡ 0) (q : checkOf w t ≡
   pub ruling-none : kindWord (rowAt w t row) ≡ 3 → none ≡ rulingHere (tableOf w s) (tableOf w t) row
   ruling-none k = folder-none (rulingHere (tableOf w s) (tableOf w t) row) (ruling-folder (tableOf w s) (tableOf w t) row e ∙ folder-row w t q row ht ∙ eq-eqb (kindWord (rowAt w t row)) 3 k)
 
-  pub ruling-some : (kindWord (rowAt w t row) ≡ 3 → ⊥) → (ka kb : Vec)
-      → ka ≡ full (tableOf w s .clock) (above (tableOf w s .tree) row) (floorOf w (rowAt w s row)) → kb ≡ full (tableOf w t .clock) (above (tableOf w t .tree) row) (floorOf w (rowAt w t row))
-      → some (ruling covers (record { row = rowOf (rowAt w s row); known = ka }) (record { row = rowOf (rowAt w t row); known = kb })) ≡ rulingHere (tableOf w s) (tableOf w t) row
-  unfolding ruleAt
-  ruling-some k ka kb ea eb = go (sheetHere (pairAt (tableOf w s) (tableOf w t) row)) refl
+  -- of a sheet, the pair has what the two rows' words say
+  pair-some : (kindWord (rowAt w t row) ≡ 3 → ⊥) → sheetHere (pairAt (tableOf w s) (tableOf w t) row) ≡ some (record { a = sheetOf w (rowAt w s row); b = sheetOf w (rowAt w t row) })
+  pair-some k = go (sheetHere (pairAt (tableOf w s) (tableOf w t) row)) refl
     where
-      go : (o : Option (Two Sheet)) → sheetHere (pairAt (tableOf w s) (tableOf w t) row) ≡ o
-          → some (ruling covers (record { row = rowOf (rowAt w s row); known = ka }) (record { row = rowOf (rowAt w t row); known = kb })) ≡ rulingHere (tableOf w s) (tableOf w t) row
+      go : (o : Option (Two Sheet)) → sheetHere (pairAt (tableOf w s) (tableOf w t) row) ≡ o → o ≡ some (record { a = sheetOf w (rowAt w s row); b = sheetOf w (rowAt w t row) })
       go none z =
           absurd (false≢true (sym (folder-row w t q row ht ∙ ne-eqb (kindWord (rowAt w t row)) 3 k) ∙ ap isFolder (side-right (tableOf w s) (tableOf w t) row e ∙ ap (Option·map (λ x. x .b)) z)))
       go (some x) z =
-          let rule = ruleAt (tableOf w s .clock) (tableOf w t .clock) (above (tableOf w s .tree) row) (above (tableOf w t .tree) row) in
-          let u = sheet-says w s p row hs (λ x. x .a) _ (side-left (tableOf w s) (tableOf w t) row e) x z in
-          let v = sheet-says w t q row ht (λ x. x .b) _ (side-right (tableOf w s) (tableOf w t) row e) x z in
-          sym (ruling-pair (tableOf w s) (tableOf w t) row e ∙ ap (Option·map rule) z
-          ∙ ap₂ (λ f g. some (rule (record { a = f; b = g }))) u v
-          ∙ ap₂ (λ f g. some (ruling covers (record { row = rowOf (rowAt w s row); known = f }) (record { row = rowOf (rowAt w t row); known = g }))) (sym ea) (sym eb))
+          ap₂ (λ (f g : Sheet). some (record { a = f; b = g })) (sheet-says w s p row hs (λ x. x .a) _ (side-left (tableOf w s) (tableOf w t) row e) x z)
+          (sheet-says w t q row ht (λ x. x .b) _ (side-right (tableOf w s) (tableOf w t) row e) x z)
+
+  -- the known time of the row in either
+  abbrev knownIn : List ℕ → Vec
+  knownIn t = full (tableOf w t .clock) (above (tableOf w t .tree) row) (floorOf w (rowAt w t row))
+
+  module _ (ka kb : Vec) (ea : ka ≡ knownIn s) (eb : kb ≡ knownIn t) where
+    pub ruling-some : (kindWord (rowAt w t row) ≡ 3 → ⊥)
+        → some (ruling covers (record { row = rowOf (rowAt w s row); known = ka }) (record { row = rowOf (rowAt w t row); known = kb })) ≡ rulingHere (tableOf w s) (tableOf w t) row
+    unfolding ruleAt
+    ruling-some k =
+        let rule = ruleAt (tableOf w s .clock) (tableOf w t .clock) (above (tableOf w s .tree) row) (above (tableOf w t .tree) row) in
+        sym (ruling-pair (tableOf w s) (tableOf w t) row e ∙ ap (Option·map rule) (pair-some k)
+        ∙ ap₂ (λ f g. some (ruling covers (record { row = rowOf (rowAt w s row); known = f }) (record { row = rowOf (rowAt w t row); known = g }))) (sym ea) (sym eb))
+
+    -- THE MASKS there
+    pub masks-some : isFolder (rulingHere (tableOf w s) (tableOf w t) row) ≡ false
+        → _≡_ {A = Masked} (record { number = 0; source = ahead w ka kb; target = ahead w kb ka }) (masksOf (aheadHere w (tableOf w s) (tableOf w t) row))
+    unfolding aheadSheet
+    masks-some f =
+        let k = eqb-false (kindWord (rowAt w t row)) 3 (sym (ruling-folder (tableOf w s) (tableOf w t) row e ∙ folder-row w t q row ht) ∙ f) in
+        let masks = aheadSheet w (tableOf w s .clock) (tableOf w t .clock) (above (tableOf w s .tree) row) (above (tableOf w t .tree) row) in
+        sym (ap masksOf (ahead-pair (tableOf w s) (tableOf w t) row e w ∙ ap (Option·map masks) (pair-some k))
+        ∙ ap₂ (λ (f g : Vec). record { number = 0; source = ahead w f g; target = ahead w g f }) (sym ea) (sym eb))

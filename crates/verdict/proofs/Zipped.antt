@@ -6,7 +6,7 @@ use mathlib.Core.Option.{Option, none, some, Option·map}
 use Rattle.paper.specs.Tree.{Forest, mapped, subtree, sheetHere, shaped, above}
 use Rattle.paper.specs.Walk.{zip, ruleAt}
 use Rattle.paper.specs.Words.{Table}
-use Rattle.paper.specs.Calls.{pairAt, rulingHere, isFolder}
+use Rattle.paper.specs.Calls.{pairAt, rulingHere, isFolder, aheadSheet, aheadHere}
 use Rattle.laws.proofs.Forests.{mapped-subtree, mapped-here, shaped-shape, zip-left, zip-right}
 
 -- the sheet at a row, if there is one
@@ -30,6 +30,11 @@ module _ (a b : Table) (row : ℕ) (e : shaped (a .tree) (b .tree) ≡ true) whe
   pub ruling-pair : rulingHere a b row ≡ Option·map (ruleAt (a .clock) (b .clock) (above (a .tree) row) (above (b .tree) row)) (sheetHere (pairAt a b row))
   unfolding rulingHere
   ruling-pair = mapped-here (ruleAt (a .clock) (b .clock) (above (a .tree) row) (above (b .tree) row)) (λ y. y) (pairAt a b row)
+
+  -- and so are the masks
+  pub ahead-pair : (w : ℕ) → aheadHere w a b row ≡ Option·map (aheadSheet w (a .clock) (b .clock) (above (a .tree) row) (above (b .tree) row)) (sheetHere (pairAt a b row))
+  unfolding aheadHere
+  ahead-pair w = mapped-here (aheadSheet w (a .clock) (b .clock) (above (a .tree) row) (above (b .tree) row)) (λ y. y) (pairAt a b row)
 
   -- there is none where the target has a folder
   pub ruling-folder : isFolder (rulingHere a b row) ≡ isFolder (sheetHere (subtree (b .tree) row))

@@ -1,11 +1,12 @@
-// What the rules say at one row of two tables that are accepted.
+// What the rules say at one row of two tables that are accepted, and who is ahead there.
 use known::known_time;
+use paper::Masks;
 use paper::Ruling;
 use rules::judge;
 use vector::row::Row;
 ghost use mathlib.Core.Path.{_≡_};
 ghost use Rattle.paper.specs.Words.{tableOf};
-ghost use Rattle.paper.specs.Calls.{twoRefused, rulingHere, isFolder, conflicts, side};
+ghost use Rattle.paper.specs.Calls.{twoRefused, rulingHere, isFolder, conflicts, side, masked, aheadRefused, aheadHere, masksOf};
 ghost use Rattle.paper.specs.Devices.{devices};
 ghost use Prim.Native.Nat.{_≤_};
 ghost use Rattle.verdict.specs.SaidOf.{saidOf};
@@ -75,4 +76,18 @@ pub fn ruling_at(source: &[u32], target: &[u32], row: usize, columns: usize) -> 
     let kb = known_time(target, row, columns);
     let ruling = judge(&source[at..end], &target[at..end], ka, kb);
     Said::Sheet(ruling)
+}
+
+// Who is ahead at a row in conflict: the masks of what the source knows beyond the target, and the target beyond the source.
+pub fn masks_at(source: &[u32], target: &[u32], row: usize, columns: usize) -> Masks
+    requires { ⌜ (aheadRefused columns (now source) (now target) row ≡ 0) × (columns ≤ devices) ⌝ }
+    ensures { λ r. ⌜ masked r ≡ masksOf (aheadHere columns (tableOf columns (now (source .entry))) (tableOf columns (now (target .entry))) row) ⌝ }
+{
+    let ka = known_time(source, row, columns);
+    let kb = known_time(target, row, columns);
+    Masks {
+        number: 0,
+        source: ka.ahead(kb, columns),
+        target: kb.ahead(ka, columns),
+    }
 }

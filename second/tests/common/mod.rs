@@ -8,7 +8,7 @@ use std::ops::Range;
 pub use second::layout::{head, word, Kind, Time, Width, MOST_ROWS};
 pub use second::trial::look::*;
 pub use second::trial::{plans, two_of, Random};
-pub use second::{Answer, Vector};
+pub use second::{Answer, Masks, Vector};
 
 /// The plan of the marked sheets.
 pub const PLAN: [u32; 5] = [5, 3, 0, 0, 0];
@@ -33,6 +33,26 @@ pub fn done(count: u32) -> Answer {
 }
 
 pub fn refused(number: u32) -> Answer {
+    Answer { number, count: 0 }
+}
+
+/// What is said of a conflict, or with masks of 0 of a refusal.
+pub fn masks(number: u32, source: u32, target: u32) -> Masks {
+    Masks {
+        number,
+        source,
+        target,
+    }
+}
+
+/// The number of the call that says who is ahead: each mask is 0 exactly where it is refused.
+pub fn ahead_number(source: &[u32], target: &[u32], row: u32) -> Answer {
+    let Masks {
+        number,
+        source,
+        target,
+    } = second::ahead(source, target, row);
+    assert_eq!([source, target].map(|mask| mask == 0), [number != 0; 2]);
     Answer { number, count: 0 }
 }
 
@@ -99,6 +119,11 @@ impl Desk {
         assert_eq!(answer.number, 0, "settling by {choice} at row {row}");
         assert_sound(target);
         answer.count
+    }
+
+    /// Who is ahead at a sheet.
+    pub fn ahead(&self, source: usize, target: usize, row: usize) -> Masks {
+        second::ahead(&self.tables[source], &self.tables[target], row as u32)
     }
 
     /// A device's table becomes wide.

@@ -45,8 +45,8 @@ returns-2 c =
     ap some (c .judge .ensures
     ∙ ap₂ (λ x y. ruling covers (record { row = rowOf x; known = vec (ka .known-time .result .0) }) (record { row = rowOf y; known = vec (kb .known-time2 .result .0) }))
     (row-cut w s row) (row-cut w t row))
-    ∙ ruling-some w s t (p .source) (p .target) row (p .inSource) (p .inTarget) (p .shaped) (λ e. one .if1 .left (sym (word-at w t row 0 (omega arith)) ∙ e)) _ _
-    (ka .known-time .ensures) (kb .known-time2 .ensures)
+    ∙ ruling-some w s t (p .source) (p .target) row (p .inSource) (p .inTarget) (p .shaped) _ _ (ka .known-time .ensures) (kb .known-time2 .ensures)
+    (λ e. one .if1 .left (sym (word-at w t row 0 (omega arith)) ∙ e))
 
 pub ruling-at-spec : {M : Type 1} → statement M
 ruling-at-spec =

@@ -31,11 +31,11 @@ int main(void) {
     if (!is_right("kf_new", kf_new(COLUMNS, DESK, plan, ROWS, desk, LENGTH), 0, ROWS) ||
         !is_right("kf_new", kf_new(COLUMNS, TABLET, plan, ROWS, tablet, LENGTH), 0, ROWS) ||
         !is_right("kf_new", kf_new(COLUMNS, LAPTOP, plan, ROWS, laptop, LENGTH), 0, ROWS) ||
-        !is_right("kf_event", kf_event(desk, LENGTH, SHEET, KF_CREATE, 700), 0, 1) ||
+        !is_right("kf_event", kf_event(desk, LENGTH, SHEET, KF_CREATE, 700, 0), 0, 1) ||
         !is_right("kf_pass", kf_pass(desk, LENGTH, tablet, LENGTH, 0, said, ROWS), 0, ROWS) ||
-        !is_right("kf_event", kf_event(desk, LENGTH, SHEET, KF_CHANGE, 650), 0, 2) ||
-        !is_right("kf_event", kf_event(tablet, LENGTH, SHEET, KF_CHANGE, 640), 0, 1) ||
-        !is_right("kf_event", kf_event(laptop, LENGTH, OTHER_SHEET, KF_CREATE, 815), 0, 1) ||
+        !is_right("kf_event", kf_event(desk, LENGTH, SHEET, KF_CHANGE, 650, 0), 0, 2) ||
+        !is_right("kf_event", kf_event(tablet, LENGTH, SHEET, KF_CHANGE, 640, 0), 0, 1) ||
+        !is_right("kf_event", kf_event(laptop, LENGTH, OTHER_SHEET, KF_CREATE, 815, 0), 0, 1) ||
         !is_right("kf_pass", kf_pass(laptop, LENGTH, desk, LENGTH, 0, said, ROWS), 0, ROWS))
         return 1;
 

@@ -25,7 +25,7 @@ int main(void) {
     }
     if (!is_right("kf_new", kf_new(COLUMNS, 0, plan, ROWS, desk, LENGTH), 0, ROWS) ||
         !is_right("kf_new", kf_new(COLUMNS, 1, plan, ROWS, tablet, LENGTH), 0, ROWS) ||
-        !is_right("kf_event", kf_event(desk, LENGTH, SHEET, KF_CREATE, 700), 0, 1) ||
+        !is_right("kf_event", kf_event(desk, LENGTH, SHEET, KF_CREATE, 700, 0), 0, 1) ||
         !is_right("kf_pass", kf_pass(desk, LENGTH, tablet, LENGTH, 0, answers, ROWS), 0, ROWS))
         return 1;
 

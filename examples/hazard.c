@@ -22,7 +22,7 @@ static int make(uint32_t *table, uint32_t device) {
 }
 
 static int act(uint32_t *table, uint32_t event, uint32_t mark, uint32_t count) {
-    return is_right("kf_event", kf_event(table, LENGTH, SHEET, event, mark), 0, count);
+    return is_right("kf_event", kf_event(table, LENGTH, SHEET, event, mark, 0), 0, count);
 }
 
 static unsigned figure(const uint32_t *table) { return (unsigned)table[KF_ROW(COLUMNS, SHEET) + KF_AT_MARK]; }

@@ -33,7 +33,7 @@
  * Layout. A vector has a column, one count, for each device: 8 in a narrow table, for devices 0 to 7, and 16 in a
  * wide one, for devices 0 to 15. A table is a head and then its 1 to 256 rows; the head and each row have 40 words if
  * narrow, 72 if wide. The head: 0 device, 1 counter, 2 number of rows, 3 the sign of its width (0 if narrow, 16 if
- * wide), then zeros. A row: 0 kind, 1 size, 2-3 stamp (device, count), 4-5 birth (device, count), 6 mark, 7 zero, and
+ * wide), then zeros. A row: 0 kind, 1 size, 2-3 stamp (device, count), 4-5 birth (device, count), 6 mark, 7 class, and
  * four vectors, floor, newest, least, most, which start at 8, 16, 24, 32 if narrow and at 8, 24, 40, 56 if wide. Rows
  * are depth first and numbered from 0, the root; a folder's size counts itself and all rows beneath it, a sheet's is 1.
  * The tree of a table is fixed when it is made.
@@ -52,7 +52,7 @@ extern "C" {
 #endif
 
 /* The version of this header: major * 65536 + minor. kf_version gives that of the library that is linked. */
-#define KF_VERSION 4
+#define KF_VERSION 5
 
 /* Before a call whose answer must be looked at: the compiler warns where it is dropped. */
 #if defined(__cplusplus) && __cplusplus >= 201703L
@@ -71,12 +71,22 @@ extern "C" {
 /* The most rows of a table, and the most levels, root and sheets included. */
 #define KF_MOST_ROWS 256
 #define KF_MOST_LEVELS 16
+/* The last class of duty; the first is 0. */
+#define KF_LAST_CLASS 9
 
 /* Places in the head. */
 enum kf_head_place { KF_AT_DEVICE = 0, KF_AT_COUNTER = 1, KF_AT_ROWS = 2, KF_AT_SIGN = 3 };
 
 /* Places in a row, from its start. A stamp or birth has its device there and its count next. */
-enum kf_row_place { KF_AT_KIND = 0, KF_AT_SIZE = 1, KF_AT_STAMP = 2, KF_AT_BIRTH = 4, KF_AT_MARK = 6, KF_AT_FLOOR = 8 };
+enum kf_row_place {
+    KF_AT_KIND = 0,
+    KF_AT_SIZE = 1,
+    KF_AT_STAMP = 2,
+    KF_AT_BIRTH = 4,
+    KF_AT_MARK = 6,
+    KF_AT_CLASS = 7,
+    KF_AT_FLOOR = 8
+};
 #define KF_AT_NEWEST(columns) (KF_AT_FLOOR + (size_t)(columns))
 #define KF_AT_LEAST(columns) (KF_AT_FLOOR + 2 * (size_t)(columns))
 #define KF_AT_MOST(columns) (KF_AT_FLOOR + 3 * (size_t)(columns))
@@ -110,7 +120,7 @@ enum kf_refusal {
                                      256 or not matching the length, word 3 neither 0 nor 16, non-zero rest */
     KF_REFUSED_ORDER = 2,         /* a kind is above 3, or sizes, row 0 or levels break the order of rows; or a plan that
                                      would give such rows */
-    KF_REFUSED_RULE = 3,          /* any other rule of the layout or the times is broken */
+    KF_REFUSED_RULE = 3,          /* any other rule of the layout or the times is broken; a live row's class above 9 */
     KF_REFUSED_PLACES = 4,        /* sizes or folder places differ between the tables */
     KF_REFUSED_ONE_DEVICE = 5,    /* both tables have one device number */
     KF_REFUSED_SOURCE_AHEAD = 6,  /* a floor in the source names a later count of the target's device than its counter */
@@ -126,8 +136,9 @@ enum kf_refusal {
     KF_REFUSED_COUNTER = 15,      /* the counter is 4,294,967,295 and a new stamp is needed */
     KF_REFUSED_CHOICE = 16,       /* event or choice not 1, 2 or 3 */
     KF_REFUSED_DEVICE = 17,       /* new table's device above 7 (above 15 with 16 columns) */
-    KF_REFUSED_WIDTH = 19         /* two tables of different width; new table's columns neither 8 nor 16; widening a
+    KF_REFUSED_WIDTH = 19,        /* two tables of different width; new table's columns neither 8 nor 16; widening a
                                      table that is wide already */
+    KF_REFUSED_CLASS = 21         /* a class above 9 where one is taken: creating, changing, settling by new */
 };
 
 /* Word 0 of a row. Everything but a folder is a sheet. */
@@ -183,11 +194,13 @@ kf_answer kf_widen(const uint32_t *table, size_t table_length, uint32_t *wide, s
 
 /*
  * Does an event to a sheet: KF_CREATE (never or removed), KF_CHANGE (live) or KF_REMOVE (live). The counter goes up by
- * one; the new stamp is counted. `mark` stands for the sheet's content; KF_REMOVE ignores it.
- * Refused with 1, 2, 3, 16, 8, 10, 15.
+ * one; the new stamp is counted. `mark` stands for the sheet's content, and `duty_class` is its class of duty,
+ * 0 to KF_LAST_CLASS; KF_REMOVE ignores both.
+ * Refused with 1, 2, 3, 16, 21, 8, 10, 15.
  */
 KF_MUST_USE
-kf_answer kf_event(uint32_t *table, size_t table_length, uint32_t row, uint32_t event, uint32_t mark);
+kf_answer kf_event(uint32_t *table, size_t table_length, uint32_t row, uint32_t event, uint32_t mark,
+                   uint32_t duty_class);
 
 /*
  * Passes from source, only read, to target: the row and all beneath it. Counts the rows looked at.
@@ -202,13 +215,13 @@ kf_answer kf_pass(const uint32_t *source, size_t source_length, uint32_t *target
 
 /*
  * Settles a sheet where the rules say conflict, in the target: KF_THEIRS takes the source's sheet, KF_OWN keeps the
- * target's, KF_NEW makes it live with a new stamp and the mark given (the others ignore the mark). The conflict
+ * target's, KF_NEW makes it live with a new stamp and the mark and class given (the others ignore both). The conflict
  * doesn't come back. Counts the new stamp, 0 if there is none.
- * Refused with 1, 2, 3, 11, 12, 13, 19, 4, 5, 6, 7, 8, 16, 10, 14, 15.
+ * Refused with 1, 2, 3, 11, 12, 13, 19, 4, 5, 6, 7, 8, 16, 21, 10, 14, 15.
  */
 KF_MUST_USE
 kf_answer kf_settle(const uint32_t *source, size_t source_length, uint32_t *target, size_t target_length, uint32_t row,
-                    uint32_t choice, uint32_t mark);
+                    uint32_t choice, uint32_t mark, uint32_t duty_class);
 
 /*
  * Shows all rows beneath a folder. Counts the words of that part of the table, which starts at

@@ -2,6 +2,7 @@
 
 use second::layout::Width;
 use second::trial::look;
+use second::Content;
 
 use crate::program::{Answer, Program};
 
@@ -63,9 +64,11 @@ impl Call {
             Call::Check => &[0, 1, 2, 3],
             Call::New => &[0, 19, 17, 2, 9],
             Call::Widen => &[0, 1, 2, 3, 19, 9],
-            Call::Event => &[0, 1, 2, 3, 16, 8, 10, 15],
+            Call::Event => &[0, 1, 2, 3, 16, 21, 8, 10, 15],
             Call::Pass => &[0, 1, 2, 3, 11, 12, 13, 19, 4, 5, 6, 7, 8, 9],
-            Call::Settle => &[0, 1, 2, 3, 11, 12, 13, 19, 4, 5, 6, 7, 8, 16, 10, 14, 15],
+            Call::Settle => &[
+                0, 1, 2, 3, 11, 12, 13, 19, 4, 5, 6, 7, 8, 16, 21, 10, 14, 15,
+            ],
             Call::Beneath => &[0, 1, 2, 3, 8],
             Call::Standing => &[0, 1, 2, 3, 11, 12, 13, 19, 4, 5, 6, 7, 8, 10],
             Call::Ahead => &[0, 1, 2, 3, 11, 12, 13, 19, 4, 5, 6, 7, 8, 10, 14],
@@ -124,8 +127,8 @@ pub struct Lent {
     pub row: u32,
     /// The event or the choice.
     pub act: u32,
-    /// The mark.
-    pub mark: u32,
+    /// The mark and the class.
+    pub content: Content,
 }
 
 impl Lent {
@@ -207,15 +210,15 @@ fn guard_at(place: usize) -> u32 {
 pub fn perform(program: &Program, call: Call, lent: &Lent, shift: usize) -> Outcome {
     let mut buffers = lent.buffers().map(|(_, words)| Guarded::new(words, shift));
     let [source, target, wide, plan, answers] = &mut buffers;
-    let (row, act, mark) = (lent.row, lent.act, lent.mark);
+    let (row, act, content) = (lent.row, lent.act, lent.content);
     let (mut side, mut ahead) = (0, [0; 2]);
     let answer = match call {
         Call::Check => (program.check)(target.lent()),
         Call::New => (program.new)(lent.columns, lent.device, plan.lent(), target.lent()),
         Call::Widen => (program.widen)(target.lent(), wide.lent()),
-        Call::Event => (program.event)(target.lent(), row, act, mark),
+        Call::Event => (program.event)(target.lent(), row, act, content),
         Call::Pass => (program.pass)(source.lent(), target.lent(), row, answers.lent()),
-        Call::Settle => (program.settle)(source.lent(), target.lent(), row, act, mark),
+        Call::Settle => (program.settle)(source.lent(), target.lent(), row, act, content),
         Call::Beneath => (program.beneath)(target.lent(), row),
         Call::Standing => {
             side = (program.standing_side)(source.lent(), target.lent(), row);

@@ -21,7 +21,7 @@ fn hurt(random: &mut Random, table: &mut Vec<u32>) {
     let width = width(table);
     let row = random.within(0..rows(table));
     let devices = [0, 1, 2, 7, 8, 15, 16, u32::MAX];
-    match random.within(0..18) {
+    match random.within(0..19) {
         0..=6 => change(random, table, row),
         7 => {
             let kind = place(table, row, word::KIND);
@@ -46,6 +46,10 @@ fn hurt(random: &mut Random, table: &mut Vec<u32>) {
         16 => {
             let column = random.within(counts(table, row, Time::Floor));
             table[column] = random.odd_word();
+        }
+        17 => {
+            let class = place(table, row, word::CLASS);
+            table[class] = random.one_of(&[0, 1, 9, 10, 16, u32::MAX]);
         }
         _ => pretend(random, table),
     }

@@ -3,12 +3,14 @@
 use std::ops::Range;
 
 use second::history::{Act, Choice, Ruling};
-use second::layout::{head, Kind, Width};
+use second::layout::{head, Kind, Width, LAST_CLASS};
 use second::trial::look::{is_folder, kind, known, rows, size, stamp, width};
 use second::trial::{plans, two_of, Random};
+use second::Content;
 
 use crate::call::{Call, Lent, Outcome};
 use crate::judge::{Failure, Judge};
+use crate::lents;
 use crate::record::Record;
 use crate::run::{Pair, Run, Start, Step};
 
@@ -37,6 +39,18 @@ fn hold(holds: bool, what: impl FnOnce() -> String) -> Result<(), Trouble> {
     } else {
         Err(Trouble::History(what()))
     }
+}
+
+/// Whether a call that takes a content takes this one.
+fn may_be_taken(content: Content) -> bool {
+    content.class <= LAST_CLASS
+}
+
+/// A content that may not be taken has been refused.
+fn refused_content(content: Content, outcome: &Outcome) -> Result<(), Trouble> {
+    hold(outcome.answer.number == 21, || {
+        format!("{content:?} gives {}", outcome.answer.number)
+    })
 }
 
 /// The devices of a run.
@@ -83,11 +97,15 @@ impl Desk<'_> {
             row,
         };
         let anywhere = random.within(0..rows);
-        let mark = random.word();
+        let content = lents::content(random, 40);
         let choice = random.within(1..4) as u32;
         if random.once_in(2) {
             if let Some(pair) = self.conflicts.pop() {
-                return Step::Settle { pair, choice, mark };
+                return Step::Settle {
+                    pair,
+                    choice,
+                    content,
+                };
             }
         }
         let row = if self.record.sheets.is_empty() || random.once_in(12) {
@@ -105,12 +123,12 @@ impl Desk<'_> {
                     Some(Kind::Live) => random.one_of(&[2, 2, 3]),
                     _ => 1,
                 },
-                mark,
+                content,
             },
             15..=17 => Step::Settle {
                 pair: at(row),
                 choice,
-                mark,
+                content,
             },
             18..=20 => Step::Show(at(random.within(0..rows + 1))),
             _ => Step::Pass(at(random.one_of(&[0, 0, row, anywhere]))),
@@ -124,24 +142,37 @@ impl Desk<'_> {
                 device,
                 row,
                 act,
-                mark,
-            } => self.event(device, row, act, mark),
+                content,
+            } => self.event(device, row, act, content),
             Step::Widen { device } => self.widen(device),
             Step::Pass(pair) => self.pass(pair),
-            Step::Settle { pair, choice, mark } => self.settle(pair, choice, mark),
+            Step::Settle {
+                pair,
+                choice,
+                content,
+            } => self.settle(pair, choice, content),
             Step::Show(pair) => self.show(pair),
         }
     }
 
-    fn event(&mut self, device: usize, row: usize, act: u32, mark: u32) -> Result<(), Trouble> {
+    fn event(
+        &mut self,
+        device: usize,
+        row: usize,
+        act: u32,
+        content: Content,
+    ) -> Result<(), Trouble> {
         let lent = Lent {
             target: self.tables[device].clone(),
             row: row as u32,
             act,
-            mark,
+            content,
             ..Lent::default()
         };
         let outcome = self.judge.call(Call::Event, &lent)?;
+        if act != 3 && !may_be_taken(content) {
+            return refused_content(content, &outcome);
+        }
         if is_folder(&lent.target, row) {
             return hold(outcome.answer.number == 10, || {
                 "an event at a folder isn't refused".to_owned()
@@ -152,6 +183,7 @@ impl Desk<'_> {
         }
         let act = [Act::Create, Act::Change, Act::Remove][act as usize - 1];
         let said = self.record.history.event(device, row, act);
+        self.record.note(device, outcome.answer.count, content);
         self.agree(device, row, &outcome, said, 10)
     }
 
@@ -177,7 +209,7 @@ impl Desk<'_> {
         self.agree_everywhere(device)
     }
 
-    fn settle(&mut self, pair: Pair, choice: u32, mark: u32) -> Result<(), Trouble> {
+    fn settle(&mut self, pair: Pair, choice: u32, content: Content) -> Result<(), Trouble> {
         let Pair {
             source,
             target,
@@ -185,12 +217,15 @@ impl Desk<'_> {
         } = pair;
         let lent = Lent {
             act: choice,
-            mark,
+            content,
             ..self.lent(pair)
         };
         let Some(outcome) = self.call_pair(Call::Settle, &lent)? else {
             return Ok(());
         };
+        if choice == 3 && !may_be_taken(content) {
+            return refused_content(content, &outcome);
+        }
         if is_folder(&lent.target, row) {
             return hold(outcome.answer.number == 10, || {
                 "settling a folder isn't refused".to_owned()
@@ -201,6 +236,7 @@ impl Desk<'_> {
         }
         let choice = [Choice::Theirs, Choice::Own, Choice::New][choice as usize - 1];
         let said = self.record.history.settle(source, target, row, choice);
+        self.record.note(target, outcome.answer.count, content);
         self.agree(target, row, &outcome, said, 14)
     }
 

@@ -2,17 +2,20 @@
 
 use std::cell::{Cell, RefCell};
 
-use second::layout::Width;
-use second::trial::look::kind;
+use second::layout::{Kind, Width, LAST_CLASS};
+use second::trial::look::{class, kind};
 
 use crate::call::{perform, Call, Lent, Outcome};
 use crate::program::Program;
+
+/// The number in an answer list that brings a live sheet.
+const COPY: usize = 1;
 
 /// How often each thing was seen at one width.
 #[derive(Clone, Debug, Default, PartialEq, Eq)]
 pub struct Tally {
     /// By call, in the order of `Call::ALL`, and by number.
-    pub numbers: [[u64; 20]; Call::ALL.len()],
+    pub numbers: [[u64; 22]; Call::ALL.len()],
     /// By kind in the source, kind in the target and answer, of the sheets of passes.
     pub sheets: [[[u64; 4]; 3]; 3],
     /// Walked and passed over, of the folders of passes.
@@ -21,6 +24,10 @@ pub struct Tally {
     pub sides: [u64; 3],
     /// By side and by device, of the calls for who is ahead that succeeded.
     pub ahead: [[u64; Width::Wide.columns()]; 2],
+    /// By class: given by an event or by settling new, brought by a pass that copies, taken by settling theirs.
+    pub classes: [[u64; LAST_CLASS as usize + 1]; 3],
+    /// Removals, and settlings by theirs and by own, that were done with a content that no call takes.
+    pub ignored: [u64; 3],
     /// Stayed and gave way: the target's removals that a pass of a run brought one they hadn't heard of.
     pub removals: [u64; 2],
 }
@@ -46,8 +53,35 @@ impl Tally {
             }
             (Call::Standing, 0) => self.sides[outcome.side as usize] += 1,
             (Call::Ahead, 0) => self.add_ahead(outcome.ahead),
+            (Call::Event, 0) if before.act == 3 => self.add_ignored(0, before),
+            (Call::Event, 0) => self.add_class(0, before.content.class),
+            (Call::Settle, 0) => self.add_settled(before, outcome),
             _ => (),
         }
+    }
+
+    fn add_settled(&mut self, before: &Lent, outcome: &Outcome) {
+        let (row, target) = (before.row as usize, &outcome.lent.target);
+        match before.act {
+            1 => {
+                self.add_ignored(1, before);
+                if kind(target, row) == Kind::Live.number() {
+                    self.add_class(2, class(target, row));
+                }
+            }
+            2 => self.add_ignored(2, before),
+            _ => self.add_class(0, before.content.class),
+        }
+    }
+
+    fn add_class(&mut self, way: usize, class: u32) {
+        if let Some(times) = self.classes[way].get_mut(class as usize) {
+            *times += 1;
+        }
+    }
+
+    fn add_ignored(&mut self, which: usize, before: &Lent) {
+        self.ignored[which] += u64::from(before.content.class > LAST_CLASS);
     }
 
     fn add_ahead(&mut self, masks: [u32; 2]) {
@@ -60,6 +94,9 @@ impl Tally {
 
     fn add_row(&mut self, before: &Lent, row: usize, answer: usize) {
         let kind = |table: &[u32]| kind(table, row) as usize;
+        if answer == COPY {
+            self.add_class(1, class(&before.source, row));
+        }
         match answer {
             0..=3 => self.sheets[kind(&before.source)][kind(&before.target)][answer] += 1,
             _ => self.folders[answer - 4] += 1,

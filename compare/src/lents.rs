@@ -1,12 +1,13 @@
 //! What is lent to the calls, at both widths: sound, damaged, garbage, and at the limits.
 
-use second::layout::{head, word, Kind, Width, MOST_LEVELS, MOST_ROWS};
+use second::layout::{head, word, Kind, Width, LAST_CLASS, MOST_LEVELS, MOST_ROWS};
 use second::trial::look::{fresh, is_folder, mend, rows, size, width};
 use second::trial::{plans, Random};
+use second::Content;
 
 use crate::call::Lent;
 use crate::damage::damage;
-use crate::sound::{knowing_more, World};
+use crate::sound::{knowing_more, right_content, World};
 
 /// Made-up sound tables of at most so many rows, with numbers that mostly fit. Now and then the two don't go together.
 pub fn sound(random: &mut Random, most_rows: usize) -> Lent {
@@ -80,8 +81,23 @@ pub fn garbage(random: &mut Random) -> Lent {
     lent.device = random.odd_word();
     lent.row = random.odd_word();
     lent.act = random.odd_word();
-    lent.mark = random.odd_word();
+    lent.content = Content {
+        mark: random.odd_word(),
+        class: random.odd_word(),
+    };
     lent
+}
+
+/// What a sheet may hold; once in so many times what none may.
+pub fn content(random: &mut Random, wrong_once_in: usize) -> Content {
+    let right = right_content(random);
+    match random.once_in(wrong_once_in) {
+        false => right,
+        true => Content {
+            class: random.one_of(&[LAST_CLASS + 1, LAST_CLASS + 7, 0x8000_0000, u32::MAX]),
+            ..right
+        },
+    }
 }
 
 /// Gives words a right head and root; and if so wished, sheets beneath it and right summaries.
@@ -242,7 +258,7 @@ fn tell(random: &mut Random, lent: &mut Lent) {
         0 => random.odd_word(),
         act => act as u32 % 3 + 1,
     };
-    lent.mark = random.odd_word();
+    lent.content = content(random, 12);
     let size = match lent.row as usize {
         row if row < rows => size(&lent.target, row).min(300),
         _ => 1,

@@ -3,7 +3,8 @@
 //!
 //! The last line is `N passed, M failed`: a part of the comparison counts as one, and so does each thing that must have
 //! been seen at each width: each number of each call, each answer for each pair of kinds, each side on which a row
-//! stands, each device ahead on each side, and in runs both ends of two removals that meet.
+//! stands, each device ahead on each side, each class given and carried, a content ignored by each call that takes none,
+//! and in runs both ends of two removals that meet.
 
 use std::env;
 use std::process::ExitCode;
@@ -259,6 +260,20 @@ fn seen(judge: &Judge, width: Width, score: &mut Score) {
         for (device, &times) in devices.iter().take(width.columns()).enumerate() {
             see(&format!("{side}, device {device}"), times);
         }
+    }
+    println!("a sheet of each class was given by an event or by settling new, copied by a pass, taken by settling theirs:");
+    let ways = ["given", "copied", "theirs"];
+    for (way, classes) in ways.into_iter().zip(&tally.classes) {
+        for (class, &times) in classes.iter().enumerate() {
+            see(&format!("{way}, class {class}"), times);
+        }
+    }
+    println!("a content that no call takes was ignored by");
+    for (what, &times) in ["removing", "theirs", "own"]
+        .into_iter()
+        .zip(&tally.ignored)
+    {
+        see(what, times);
     }
     println!("in a run a removal that the target hadn't heard of met one of its own, which");
     for (what, &times) in ["stayed", "gave way"].into_iter().zip(&tally.removals) {

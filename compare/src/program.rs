@@ -2,6 +2,7 @@
 
 use kettleflock::raw;
 pub use kettleflock::raw::{Answer, Masks};
+use second::Content;
 
 /// A program of the calls.
 #[derive(Clone, Copy)]
@@ -15,11 +16,11 @@ pub struct Program {
     /// `kf_widen`.
     pub widen: fn(&[u32], &mut [u32]) -> Answer,
     /// `kf_event`.
-    pub event: fn(&mut [u32], u32, u32, u32) -> Answer,
+    pub event: fn(&mut [u32], u32, u32, Content) -> Answer,
     /// `kf_pass`.
     pub pass: fn(&[u32], &mut [u32], u32, &mut [u32]) -> Answer,
     /// `kf_settle`.
-    pub settle: fn(&[u32], &mut [u32], u32, u32, u32) -> Answer,
+    pub settle: fn(&[u32], &mut [u32], u32, u32, Content) -> Answer,
     /// `kf_beneath`.
     pub beneath: fn(&[u32], u32) -> Answer,
     /// `kf_standing`.
@@ -36,9 +37,11 @@ pub const PRODUCT: Program = Program {
     check: raw::check,
     new: raw::new,
     widen: raw::widen,
-    event: raw::event,
+    event: |table, row, event, Content { mark, class }| raw::event(table, row, event, mark, class),
     pass: raw::pass,
-    settle: raw::settle,
+    settle: |source, target, row, choice, Content { mark, class }| {
+        raw::settle(source, target, row, choice, mark, class)
+    },
     beneath: raw::beneath,
     standing: raw::standing,
     standing_side: raw::standing_side,
@@ -51,10 +54,12 @@ pub const SECOND: Program = Program {
     check: |table| told(second::check(table)),
     new: |columns, device, plan, table| told(second::new(columns, device, plan, table)),
     widen: |table, wide| told(second::widen(table, wide)),
-    event: |table, row, event, mark| told(second::event(table, row, event, mark)),
+    event: |table, row, event, Content { mark, class }| {
+        told(second::event(table, row, event, mark, class))
+    },
     pass: |source, target, row, answers| told(second::pass(source, target, row, answers)),
-    settle: |source, target, row, choice, mark| {
-        told(second::settle(source, target, row, choice, mark))
+    settle: |source, target, row, choice, Content { mark, class }| {
+        told(second::settle(source, target, row, choice, mark, class))
     },
     beneath: |table, row| told(second::beneath(table, row).0),
     standing: |source, target, row| told(second::standing(source, target, row).0),

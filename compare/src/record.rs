@@ -1,10 +1,11 @@
 //! The history of a run, held against its tables.
 
-use std::collections::BTreeSet;
+use std::collections::{BTreeMap, BTreeSet};
 
 use second::history::{Event, History, State};
 use second::layout::Kind;
-use second::trial::look::{birth, kind, known, stamp};
+use second::trial::look::{birth, class, kind, known, mark, stamp};
+use second::Content;
 
 /// The history of a run's devices, and the counts at which its names of events start.
 pub struct Record {
@@ -14,6 +15,8 @@ pub struct Record {
     pub sheets: Vec<usize>,
     /// Each device's counter at the start: the history names its first event 1.
     counters: Vec<u32>,
+    /// What each event gave its sheet, by its stamp.
+    contents: BTreeMap<(u32, u32), Content>,
 }
 
 impl Record {
@@ -23,6 +26,14 @@ impl Record {
             history: History::new(counters.len(), &sheets),
             sheets,
             counters,
+            contents: BTreeMap::new(),
+        }
+    }
+
+    /// Notes what the event that a device counts so gave its sheet; of count 0 there is none.
+    pub fn note(&mut self, device: usize, count: u32, content: Content) {
+        if count > 0 {
+            self.contents.insert((device as u32, count), content);
         }
     }
 
@@ -42,7 +53,8 @@ impl Record {
     }
 
     /// A device's table and its history tell the same of every sheet: what it is, by which event, and which events
-    /// of the sheet have been taken into account. Else what differs, in words.
+    /// of the sheet have been taken into account; and a live sheet holds what its event gave it. Else what differs, in
+    /// words.
     pub fn agrees(&self, device: usize, table: &[u32]) -> Result<(), String> {
         for &row in &self.sheets {
             let sheet = self.history.sheet(device, row);
@@ -57,6 +69,19 @@ impl Record {
             if !is_same {
                 return Err(format!(
                     "row {row} of device {device}: the history has {sheet:?}"
+                ));
+            }
+            let holds = Content {
+                mark: mark(table, row),
+                class: class(table, row),
+            };
+            let given = match is {
+                Kind::Live => self.contents.get(&stamp(table, row)).copied(),
+                _ => Some(Content::NONE),
+            };
+            if given != Some(holds) {
+                return Err(format!(
+                    "row {row} of device {device}: {holds:?}, and its event gave it {given:?}"
                 ));
             }
             let known = known(table, row);

@@ -4,6 +4,7 @@ use std::fmt;
 
 use second::layout::Width;
 use second::trial::{plans, Random};
+use second::Content;
 
 use crate::desk::{Desk, Trouble};
 use crate::judge::Judge;
@@ -30,8 +31,8 @@ pub enum Step {
         row: usize,
         /// Create, change or remove.
         act: u32,
-        /// The mark.
-        mark: u32,
+        /// What the sheet is to hold.
+        content: Content,
     },
     /// A device's table becomes wide.
     Widen {
@@ -46,8 +47,8 @@ pub enum Step {
         pair: Pair,
         /// Theirs, own or new.
         choice: u32,
-        /// The mark.
-        mark: u32,
+        /// What the sheet is to hold.
+        content: Content,
     },
     /// All showings.
     Show(Pair),
@@ -114,16 +115,23 @@ impl fmt::Display for Step {
                 device,
                 row,
                 act,
-                mark,
+                content: Content { mark, class },
             } => {
                 let act = ["create", "change", "remove"][act as usize - 1];
-                write!(out, "device {device}: {act} row {row}, mark {mark}")
+                write!(
+                    out,
+                    "device {device}: {act} row {row}, mark {mark}, class {class}"
+                )
             }
             Step::Widen { device } => write!(out, "device {device}: widen"),
             Step::Pass(pair) => write!(out, "pass {pair}"),
-            Step::Settle { pair, choice, mark } => {
+            Step::Settle {
+                pair,
+                choice,
+                content: Content { mark, class },
+            } => {
                 let choice = ["theirs", "own", "new"][choice as usize - 1];
-                write!(out, "settle {pair} by {choice}, mark {mark}")
+                write!(out, "settle {pair} by {choice}, mark {mark}, class {class}")
             }
             Step::Show(pair) => write!(out, "show {pair}"),
         }

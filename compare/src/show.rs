@@ -3,6 +3,7 @@
 use std::fmt::Write;
 
 use second::trial::look::{rows, width};
+use second::Content;
 
 use crate::call::{Call, Lent};
 use crate::desk::Trouble;
@@ -48,7 +49,7 @@ fn call(call: Call, lent: &Lent) -> String {
         device,
         row,
         act,
-        mark,
+        content: Content { mark, class },
         ..
     } = lent;
     let name = call.name();
@@ -68,7 +69,7 @@ fn call(call: Call, lent: &Lent) -> String {
             only()
         ),
         Call::Event => format!(
-            "{name}(table, row {row}, event {act}, mark {mark})\n{}",
+            "{name}(table, row {row}, event {act}, mark {mark}, class {class})\n{}",
             only()
         ),
         Call::Pass => format!(
@@ -78,7 +79,7 @@ fn call(call: Call, lent: &Lent) -> String {
             target()
         ),
         Call::Settle => format!(
-            "{name}(source, target, row {row}, choice {act}, mark {mark})\n{}{}",
+            "{name}(source, target, row {row}, choice {act}, mark {mark}, class {class})\n{}{}",
             source(),
             target()
         ),

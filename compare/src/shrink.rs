@@ -3,6 +3,7 @@
 use second::layout::{head, word, Time, Width};
 use second::trial::look::{counts, is_folder, mend, narrowed, place, rows, size};
 use second::trial::plans;
+use second::Content;
 
 use crate::call::{Call, Lent};
 use crate::judge::Judge;
@@ -85,7 +86,8 @@ impl Shrinks for Lent {
 
     fn size(&self) -> (usize, usize, u128) {
         let buffers = self.buffers().map(|(_, words)| words);
-        let numbers = [self.columns, self.device, self.row, self.act, self.mark];
+        let Content { mark, class } = self.content;
+        let numbers = [self.columns, self.device, self.row, self.act, mark, class];
         let words = || buffers.into_iter().flatten().chain(&numbers);
         (
             buffers.into_iter().map(Vec::len).sum(),
@@ -250,7 +252,8 @@ fn smaller_numbers(lent: &Lent, number: usize) -> Option<Option<Lent>> {
         &mut smaller.device,
         &mut smaller.row,
         &mut smaller.act,
-        &mut smaller.mark,
+        &mut smaller.content.mark,
+        &mut smaller.content.class,
     ];
     let all = numbers
         .into_iter()
@@ -264,6 +267,8 @@ fn smaller_numbers(lent: &Lent, number: usize) -> Option<Option<Lent>> {
 impl Shrinks for Run {
     const WAYS: &'static [Way<Run>] = &[
         fewer_steps,
+        no_widening,
+        whole_passes,
         no_such_row,
         no_such_device,
         early_counters,
@@ -272,12 +277,12 @@ impl Shrinks for Run {
 
     fn size(&self) -> (usize, usize, u128) {
         let starts = self.starts.iter();
+        let starts = starts.map(|start| u128::from(start.counter) + start.width.columns() as u128);
+        let rows = self.steps.iter().map(|step| step.row() as u128);
         (
             self.steps.len(),
             self.plan.len() + self.starts.len(),
-            starts
-                .map(|start| u128::from(start.counter) + start.width.columns() as u128)
-                .sum(),
+            starts.chain(rows).sum(),
         )
     }
 }
@@ -298,6 +303,23 @@ fn fewer_steps(run: &Run, number: usize) -> Option<Option<Run>> {
     let mut fewer = run.clone();
     fewer.steps.drain(gone);
     Some(Some(fewer))
+}
+
+/// Without any widening.
+fn no_widening(run: &Run, number: usize) -> Option<Option<Run>> {
+    let mut fewer = run.clone();
+    fewer
+        .steps
+        .retain(|step| !matches!(step, Step::Widen { .. }));
+    (number == 0).then_some(Some(fewer))
+}
+
+/// With a pass that starts at the root.
+fn whole_passes(run: &Run, number: usize) -> Option<Option<Run>> {
+    let mut whole = run.clone();
+    let step = whole.steps.get_mut(number)?;
+    *step = step.at_row(0);
+    Some(matches!(step, Step::Pass(_)).then_some(whole))
 }
 
 /// Without a row, and all beneath it or not.

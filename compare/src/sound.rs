@@ -2,10 +2,10 @@
 
 use std::array;
 
-use second::layout::{head, word, Kind, Time, Width};
+use second::layout::{head, word, Kind, Time, Width, LAST_CLASS};
 use second::trial::look::{fresh, known, mend, place, rows, set_vector, vector, width};
 use second::trial::Random;
-use second::Vector;
+use second::{Content, Vector};
 
 /// What the tables of one case agree on: the tree, and how far each device has counted.
 #[derive(Clone, Debug)]
@@ -113,9 +113,19 @@ fn happen(random: &mut Random, table: &mut [u32], row: usize, kinds: &[Kind]) {
     event(word::STAMP);
     if kind == Kind::Live {
         event(word::BIRTH);
-        table[row + word::MARK] = random.odd_word();
+        let Content { mark, class } = right_content(random);
+        table[row + word::MARK] = mark;
+        table[row + word::CLASS] = class;
     }
     table[row + word::KIND] = kind.number();
+}
+
+/// What a sheet may hold.
+pub fn right_content(random: &mut Random) -> Content {
+    Content {
+        mark: random.odd_word(),
+        class: random.within(0..LAST_CLASS as usize + 1) as u32,
+    }
 }
 
 /// The table with one row that knows more than before, perhaps more than there is to know.

@@ -9,6 +9,7 @@ use compare::shrink;
 use second::layout::{head, word, Time, Width, MOST_LEVELS};
 use second::trial::look::{counts, is_folder, kind, mend, place, rows, size, width};
 use second::trial::Random;
+use second::Content;
 
 /// The smallest failing case of a program, among so many made-up ones: sound, damaged, and plans.
 fn smallest(program: Program, cases: u64) -> Option<(Call, Lent)> {
@@ -151,8 +152,8 @@ fn removals_never_give_way() {
 
 #[test]
 fn counter_wraps() {
-    let event = |table: &mut [u32], row: u32, event: u32, mark: u32| {
-        let answer = (SECOND.event)(table, row, event, mark);
+    let event = |table: &mut [u32], row: u32, event: u32, content: Content| {
+        let answer = (SECOND.event)(table, row, event, content);
         if answer.number == 15 {
             table[head::COUNTER] = 0;
             return done(0);
@@ -238,6 +239,106 @@ fn ahead_without_a_conflict() {
     found(Program { ahead, ..SECOND }, Call::Ahead, 2);
 }
 
+/// Gives each of the target's rows the class that it had before.
+fn keep_classes(before: &[u32], target: &mut [u32]) {
+    for row in 0..rows(target) {
+        let class = place(target, row, word::CLASS);
+        target[class] = before[class];
+    }
+}
+
+#[test]
+fn copy_leaves_the_class_behind() {
+    let program = Program {
+        pass: |source, target, row, answers| {
+            pass_and(source, target, row, answers, |_, before, target| {
+                keep_classes(before, target)
+            })
+        },
+        ..SECOND
+    };
+    found(program, Call::Pass, 2);
+}
+
+#[test]
+fn theirs_leaves_the_class_behind() {
+    let settle = |source: &[u32], target: &mut [u32], row: u32, choice: u32, content: Content| {
+        let before = target.to_vec();
+        let answer = (SECOND.settle)(source, target, row, choice, content);
+        if answer.number == 0 && choice == 1 {
+            keep_classes(&before, target);
+        }
+        answer
+    };
+    found(Program { settle, ..SECOND }, Call::Settle, 2);
+}
+
+#[test]
+fn any_class_in_a_table() {
+    let check = |table: &[u32]| {
+        let answer = (SECOND.check)(table);
+        let mut classless = table.to_vec();
+        for row in 0..rows(table) {
+            let class = place(table, row, word::CLASS);
+            if kind(table, row) == 1 {
+                classless[class] = 0;
+            }
+        }
+        match answer.number {
+            3 => (SECOND.check)(&classless),
+            _ => answer,
+        }
+    };
+    found(Program { check, ..SECOND }, Call::Check, 2);
+}
+
+#[test]
+fn class_judged_before_the_event() {
+    let event = |table: &mut [u32], row: u32, event: u32, content: Content| {
+        let answer = (SECOND.event)(table, row, event, content);
+        match answer.number {
+            16 if content.class > 9 => refused(21),
+            _ => answer,
+        }
+    };
+    found(Program { event, ..SECOND }, Call::Event, 1);
+}
+
+#[test]
+fn class_judged_after_the_row() {
+    let event = |table: &mut [u32], row: u32, event: u32, content: Content| {
+        let answer = (SECOND.event)(table, row, event, content);
+        match answer.number {
+            21 if row as usize >= rows(table) => refused(8),
+            _ => answer,
+        }
+    };
+    found(Program { event, ..SECOND }, Call::Event, 1);
+}
+
+#[test]
+fn removal_refused_for_its_class() {
+    let event = |table: &mut [u32], row: u32, event: u32, content: Content| match content.class {
+        10.. if (SECOND.check)(table).number == 0 && event == 3 => refused(21),
+        _ => (SECOND.event)(table, row, event, content),
+    };
+    found(Program { event, ..SECOND }, Call::Event, 1);
+}
+
+#[test]
+fn own_refused_for_its_class() {
+    let settle = |source: &[u32], target: &mut [u32], row: u32, choice: u32, content: Content| {
+        let before = target.to_vec();
+        let answer = (SECOND.settle)(source, target, row, choice, content);
+        if answer.number == 0 && choice == 2 && content.class > 9 {
+            target.copy_from_slice(&before);
+            return refused(21);
+        }
+        answer
+    };
+    found(Program { settle, ..SECOND }, Call::Settle, 2);
+}
+
 #[test]
 fn devices_of_new_tables_end_at_7() {
     let new = |columns: u32, device: u32, plan: &[u32], table: &mut [u32]| match device {
@@ -303,8 +404,8 @@ fn places_differ(one: &[u32], other: &[u32]) -> bool {
 
 #[test]
 fn source_read_at_the_targets_width() {
-    let settle = |source: &[u32], target: &mut [u32], row: u32, choice: u32, mark: u32| {
-        let answer = (SECOND.settle)(source, target, row, choice, mark);
+    let settle = |source: &[u32], target: &mut [u32], row: u32, choice: u32, content: Content| {
+        let answer = (SECOND.settle)(source, target, row, choice, content);
         if answer.number == 19 {
             return refused(1);
         }
@@ -383,9 +484,9 @@ fn smallest_run(faulty: Program) -> Run {
 /// Settling by own raises no time, so the conflict comes back.
 #[test]
 fn settled_conflict_comes_back() {
-    let settle = |source: &[u32], target: &mut [u32], row: u32, choice: u32, mark: u32| {
+    let settle = |source: &[u32], target: &mut [u32], row: u32, choice: u32, content: Content| {
         let before = target.to_vec();
-        let answer = (SECOND.settle)(source, target, row, choice, mark);
+        let answer = (SECOND.settle)(source, target, row, choice, content);
         if answer.number == 0 && choice == 2 {
             target.copy_from_slice(&before);
         }
@@ -394,6 +495,21 @@ fn settled_conflict_comes_back() {
     let run = smallest_run(Program { settle, ..SECOND });
     assert_eq!(run.plan, [2, 0], "{run}");
     assert!(run.starts.len() <= 3 && run.steps.len() <= 4, "{run}");
+}
+
+/// A copy leaves the class behind: no program says so, and no rule, but the event that gave it.
+#[test]
+fn class_stays_where_it_was_given() {
+    let run = smallest_run(Program {
+        pass: |source, target, row, answers| {
+            pass_and(source, target, row, answers, |_, before, target| {
+                keep_classes(before, target)
+            })
+        },
+        ..SECOND
+    });
+    assert_eq!(run.plan, [2, 0], "{run}");
+    assert!(run.starts.len() <= 2 && run.steps.len() <= 2, "{run}");
 }
 
 /// What a widened table had heard is forgotten.

@@ -8,6 +8,9 @@ pub const MOST_ROWS: usize = 256;
 /// The most levels that there are, root and sheets included.
 pub const MOST_LEVELS: usize = 16;
 
+/// The last class of duty.
+pub const LAST_CLASS: u32 = 9;
+
 /// Places of words in the head.
 pub mod head {
     /// The device.
@@ -32,8 +35,8 @@ pub mod word {
     pub const BIRTH: usize = 4;
     /// The mark.
     pub const MARK: usize = 6;
-    /// What is always zero.
-    pub const BLANK: usize = 7;
+    /// The class of duty.
+    pub const CLASS: usize = 7;
     /// The first of the four vectors.
     pub const VECTORS: usize = 8;
 }

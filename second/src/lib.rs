@@ -16,7 +16,7 @@
 //! let (mut desk, mut tablet) = ([0; 240], [0; 240]);
 //! second::new(8, 0, &plan, &mut desk);
 //! second::new(8, 1, &plan, &mut tablet);
-//! assert_eq!(second::event(&mut desk, 2, 1, 700).count, 1);
+//! assert_eq!(second::event(&mut desk, 2, 1, 700, 0).count, 1);
 //!
 //! let mut answers = [0; 5];
 //! let answer = second::pass(&desk, &mut tablet, 0, &mut answers);
@@ -46,6 +46,7 @@ use table::Table;
 use work::{Choice, Event};
 
 pub use layout::Width;
+pub use table::Content;
 pub use vector::{Stamp, Vector};
 
 /// What a call says: the number of the refusal, or 0 for success; and a count, 0 on a refusal.
@@ -111,9 +112,9 @@ pub fn widen(table: &[u32], wide: &mut [u32]) -> Answer {
     Answer::of(try_widen(table, wide))
 }
 
-/// Creates (1), changes (2) or removes (3) a sheet; counts the new stamp.
-pub fn event(table: &mut [u32], row: u32, event: u32, mark: u32) -> Answer {
-    Answer::of(try_event(table, row, event, mark))
+/// Creates (1), changes (2) or removes (3) a sheet; counts the new stamp. A removal ignores mark and class.
+pub fn event(table: &mut [u32], row: u32, event: u32, mark: u32, class: u32) -> Answer {
+    Answer::of(try_event(table, row, event, Content { mark, class }))
 }
 
 /// Passes the subtree that starts at a row from source to target. Counts the rows looked at.
@@ -124,9 +125,18 @@ pub fn pass(source: &[u32], target: &mut [u32], row: u32, answers: &mut [u32]) -
     Answer::of(try_pass(source, target, row, answers))
 }
 
-/// Settles a conflict by theirs (1), own (2) or new (3); counts the new stamp, 0 if there is none.
-pub fn settle(source: &[u32], target: &mut [u32], row: u32, choice: u32, mark: u32) -> Answer {
-    Answer::of(try_settle(source, target, row, choice, mark))
+/// Settles a conflict by theirs (1), own (2) or new (3); counts the new stamp, 0 if there is none. Theirs and own ignore
+/// mark and class.
+pub fn settle(
+    source: &[u32],
+    target: &mut [u32],
+    row: u32,
+    choice: u32,
+    mark: u32,
+    class: u32,
+) -> Answer {
+    let content = Content { mark, class };
+    Answer::of(try_settle(source, target, row, choice, content))
 }
 
 /// Shows all rows beneath a folder: the words of the table in which they lie. Counts these words.
@@ -186,11 +196,11 @@ fn write(table: &Table, words: &mut [u32]) -> Result<u32, Refusal> {
     Ok(rows as u32)
 }
 
-fn try_event(words: &mut [u32], row: u32, event: u32, mark: u32) -> Result<u32, Refusal> {
+fn try_event(words: &mut [u32], row: u32, event: u32, content: Content) -> Result<u32, Refusal> {
     let mut table = sound::read(words).map_err(Refusal::Source)?;
-    let event = Event::read(event)?;
+    let event = Event::read(event, content)?;
     let row = sound::find(&table, row)?;
-    let count = work::event(&mut table, row, event, mark)?;
+    let count = work::event(&mut table, row, event)?;
     words.copy_from_slice(&table.words());
     Ok(count)
 }
@@ -217,12 +227,12 @@ fn try_settle(
     target_words: &mut [u32],
     row: u32,
     choice: u32,
-    mark: u32,
+    content: Content,
 ) -> Result<u32, Refusal> {
     let (source, mut target) = sound::read_pair(source, target_words)?;
     let row = sound::find(&target, row)?;
-    let choice = Choice::read(choice)?;
-    let count = work::settle(&source, &mut target, row, choice, mark)?;
+    let choice = Choice::read(choice, content)?;
+    let count = work::settle(&source, &mut target, row, choice)?;
     target_words.copy_from_slice(&target.words());
     Ok(count)
 }

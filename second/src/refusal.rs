@@ -31,6 +31,8 @@ pub enum Refusal {
     NoSuchDevice,
     /// Two tables of different width, a table to widen that is wide already, or columns that are neither 8 nor 16.
     WrongWidth,
+    /// A call was given a class above 9.
+    NoSuchClass,
     /// The plan would give rows that break the order.
     BadPlan,
 }
@@ -65,6 +67,7 @@ impl Refusal {
             Refusal::NoSuchChoice => 16,
             Refusal::NoSuchDevice => 17,
             Refusal::WrongWidth => 19,
+            Refusal::NoSuchClass => 21,
         }
     }
 }

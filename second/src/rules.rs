@@ -30,7 +30,7 @@ impl Ruling {
         }
     }
 
-    /// Whether the target's row takes kind, stamp, birth and mark of the source's.
+    /// Whether the target's row takes kind, stamp, birth and content of the source's.
     pub fn takes(self) -> bool {
         matches!(self, Ruling::KeepRemoval | Ruling::Copy | Ruling::Remove)
     }

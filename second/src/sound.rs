@@ -1,9 +1,9 @@
 //! Which words are sound tables, and which sound tables go together.
 
-use crate::layout::{head, Kind, Width, MOST_ROWS};
+use crate::layout::{head, Kind, Width, LAST_CLASS, MOST_ROWS};
 use crate::order::{self, Place};
 use crate::refusal::{Fault, Refusal};
-use crate::table::{Row, Table};
+use crate::table::{Content, Row, Table};
 use crate::times;
 use crate::vector::Stamp;
 
@@ -76,20 +76,23 @@ fn places(table: &Table) -> Vec<Place> {
 /// Whether a row of an ordered table keeps every other rule of the layout and the times.
 fn row_is_right(table: &Table, row: usize) -> bool {
     let words = &table.rows[row];
-    words.blank == 0
-        && words.floor.count(table.device) == 0
+    words.floor.count(table.device) == 0
         && event_words_are_right(words, table.width)
         && events_are_covered(table, row)
         && words.summary == times::summary(table, row)
 }
 
-/// Whether words 2 to 6 are those of the row's kind.
+/// Whether words 2 to 7 are those of the row's kind.
 fn event_words_are_right(row: &Row, width: Width) -> bool {
-    let no_birth = row.birth == Stamp::EMPTY && row.mark == 0;
+    let is_gone = row.birth == Stamp::EMPTY && row.content == Content::NONE;
     match row.kind {
-        Kind::Never | Kind::Folder => row.stamp == Stamp::EMPTY && no_birth,
-        Kind::Removed => row.stamp.is_proper(width) && no_birth,
-        Kind::Live => row.stamp.is_proper(width) && row.birth.is_proper(width),
+        Kind::Never | Kind::Folder => row.stamp == Stamp::EMPTY && is_gone,
+        Kind::Removed => row.stamp.is_proper(width) && is_gone,
+        Kind::Live => {
+            row.stamp.is_proper(width)
+                && row.birth.is_proper(width)
+                && row.content.class <= LAST_CLASS
+        }
     }
 }
 

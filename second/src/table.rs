@@ -13,6 +13,20 @@ pub struct Summary {
     pub most: Vector,
 }
 
+/// What a live sheet holds. It travels whole, and no rule reads it.
+#[derive(Clone, Copy, Debug, Default, PartialEq, Eq)]
+pub struct Content {
+    /// What stands for the content itself.
+    pub mark: u32,
+    /// The class of duty.
+    pub class: u32,
+}
+
+impl Content {
+    /// What stands in a row that isn't live.
+    pub const NONE: Content = Content { mark: 0, class: 0 };
+}
+
 /// One row of a table.
 #[derive(Clone, Debug, PartialEq, Eq)]
 pub struct Row {
@@ -20,9 +34,7 @@ pub struct Row {
     pub size: usize,
     pub stamp: Stamp,
     pub birth: Stamp,
-    pub mark: u32,
-    /// Word 7, which is zero in a sound table.
-    pub blank: u32,
+    pub content: Content,
     pub floor: Vector,
     pub summary: Summary,
 }
@@ -35,8 +47,7 @@ impl Row {
             size,
             stamp: Stamp::EMPTY,
             birth: Stamp::EMPTY,
-            mark: 0,
-            blank: 0,
+            content: Content::NONE,
             floor: Vector::ZERO,
             summary: Summary::default(),
         }
@@ -47,12 +58,12 @@ impl Row {
         self.kind == Kind::Folder
     }
 
-    /// Takes kind, stamp, birth and mark from another row.
+    /// Takes kind, stamp, birth and content from another row.
     pub fn take(&mut self, other: &Row) {
         self.kind = other.kind;
         self.stamp = other.stamp;
         self.birth = other.birth;
-        self.mark = other.mark;
+        self.content = other.content;
     }
 
     /// The row in these words, if its kind is one of the four.
@@ -67,8 +78,10 @@ impl Row {
             size: words[word::SIZE] as usize,
             stamp: stamp(word::STAMP),
             birth: stamp(word::BIRTH),
-            mark: words[word::MARK],
-            blank: words[word::BLANK],
+            content: Content {
+                mark: words[word::MARK],
+                class: words[word::CLASS],
+            },
             floor: vector(Time::Floor),
             summary: Summary {
                 newest: vector(Time::Newest),
@@ -87,8 +100,8 @@ impl Row {
             words[place] = stamp.device;
             words[place + 1] = stamp.count;
         }
-        words[word::MARK] = self.mark;
-        words[word::BLANK] = self.blank;
+        words[word::MARK] = self.content.mark;
+        words[word::CLASS] = self.content.class;
         for (time, vector) in [
             (Time::Floor, self.floor),
             (Time::Newest, self.summary.newest),

@@ -1,27 +1,27 @@
 //! Local work: new tables, events, and settling a conflict.
 
-use crate::layout::{Kind, Width, MOST_ROWS};
+use crate::layout::{Kind, Width, LAST_CLASS, MOST_ROWS};
 use crate::order::{self, Place};
 use crate::refusal::Refusal;
 use crate::rules::{self, Ruling};
-use crate::table::{Row, Table};
+use crate::table::{Content, Row, Table};
 use crate::times;
 use crate::vector::Stamp;
 
 /// What a user does to a sheet.
 #[derive(Clone, Copy, Debug, PartialEq, Eq)]
 pub enum Event {
-    Create,
-    Change,
+    Create(Content),
+    Change(Content),
     Remove,
 }
 
 impl Event {
-    /// The event of this number.
-    pub fn read(number: u32) -> Result<Event, Refusal> {
+    /// The event of this number, with the content if it takes one.
+    pub fn read(number: u32, content: Content) -> Result<Event, Refusal> {
         match number {
-            1 => Ok(Event::Create),
-            2 => Ok(Event::Change),
+            1 => taken(content).map(Event::Create),
+            2 => taken(content).map(Event::Change),
             3 => Ok(Event::Remove),
             _ => Err(Refusal::NoSuchChoice),
         }
@@ -30,8 +30,8 @@ impl Event {
     /// Whether it can happen to a row of this kind.
     fn fits(self, kind: Kind) -> bool {
         match self {
-            Event::Create => matches!(kind, Kind::Never | Kind::Removed),
-            Event::Change | Event::Remove => kind == Kind::Live,
+            Event::Create(_) => matches!(kind, Kind::Never | Kind::Removed),
+            Event::Change(_) | Event::Remove => kind == Kind::Live,
         }
     }
 }
@@ -41,19 +41,27 @@ impl Event {
 pub enum Choice {
     Theirs,
     Own,
-    New,
+    New(Content),
 }
 
 impl Choice {
-    /// The choice of this number.
-    pub fn read(number: u32) -> Result<Choice, Refusal> {
+    /// The choice of this number, with the content if it takes one.
+    pub fn read(number: u32, content: Content) -> Result<Choice, Refusal> {
         match number {
             1 => Ok(Choice::Theirs),
             2 => Ok(Choice::Own),
-            3 => Ok(Choice::New),
+            3 => taken(content).map(Choice::New),
             _ => Err(Refusal::NoSuchChoice),
         }
     }
+}
+
+/// The content that a call takes, if it may.
+fn taken(content: Content) -> Result<Content, Refusal> {
+    if content.class > LAST_CLASS {
+        return Err(Refusal::NoSuchClass);
+    }
+    Ok(content)
 }
 
 /// A new table of a device with so many columns, from a plan.
@@ -103,7 +111,7 @@ fn next_stamp(table: &mut Table) -> Result<Stamp, Refusal> {
 }
 
 /// Does an event to a sheet and gives the count of its stamp.
-pub fn event(table: &mut Table, row: usize, event: Event, mark: u32) -> Result<u32, Refusal> {
+pub fn event(table: &mut Table, row: usize, event: Event) -> Result<u32, Refusal> {
     if !event.fits(table.rows[row].kind) {
         return Err(Refusal::Unfit);
     }
@@ -111,16 +119,16 @@ pub fn event(table: &mut Table, row: usize, event: Event, mark: u32) -> Result<u
     let sheet = &mut table.rows[row];
     sheet.stamp = stamp;
     match event {
-        Event::Create => {
+        Event::Create(content) => {
             sheet.kind = Kind::Live;
             sheet.birth = stamp;
-            sheet.mark = mark;
+            sheet.content = content;
         }
-        Event::Change => sheet.mark = mark,
+        Event::Change(content) => sheet.content = content,
         Event::Remove => {
             sheet.kind = Kind::Removed;
             sheet.birth = Stamp::EMPTY;
-            sheet.mark = 0;
+            sheet.content = Content::NONE;
         }
     }
     times::mend(table);
@@ -144,7 +152,6 @@ pub fn settle(
     target: &mut Table,
     row: usize,
     choice: Choice,
-    mark: u32,
 ) -> Result<u32, Refusal> {
     find_conflict(source, target, row)?;
     let count = match choice {
@@ -153,15 +160,15 @@ pub fn settle(
             0
         }
         Choice::Own => 0,
-        Choice::New => renew(target, row, &source.rows[row], mark)?,
+        Choice::New(content) => renew(target, row, &source.rows[row], content)?,
     };
     times::raise(target, row, times::known(source, row));
     times::mend(target);
     Ok(count)
 }
 
-/// Makes a sheet live with a new stamp and the mark given; its birth stays if it was live, and else is the source's.
-fn renew(target: &mut Table, row: usize, source: &Row, mark: u32) -> Result<u32, Refusal> {
+/// Makes a sheet live with a new stamp and the content given; its birth stays if it was live, and else is the source's.
+fn renew(target: &mut Table, row: usize, source: &Row, content: Content) -> Result<u32, Refusal> {
     let stamp = next_stamp(target)?;
     let sheet = &mut target.rows[row];
     if sheet.kind != Kind::Live {
@@ -169,6 +176,6 @@ fn renew(target: &mut Table, row: usize, source: &Row, mark: u32) -> Result<u32,
     }
     sheet.kind = Kind::Live;
     sheet.stamp = stamp;
-    sheet.mark = mark;
+    sheet.content = content;
     Ok(stamp.count)
 }

@@ -18,11 +18,11 @@ struct Lent {
     plan: Vec<u32>,
     answers: Vec<u32>,
     columns: u32,
-    numbers: [u32; 3],
+    numbers: [u32; 4],
 }
 
 /// How often each number was given.
-type Tally = [u32; 20];
+type Tally = [u32; 22];
 
 /// Tries every call with what is lent.
 fn try_all(lent: &Lent, tally: &mut Tally) {
@@ -40,16 +40,16 @@ fn try_all(lent: &Lent, tally: &mut Tally) {
             answer
         },
         |lent| {
-            let [row, event, mark] = lent.numbers;
-            second::event(&mut lent.target, row, event, mark)
+            let [row, event, mark, class] = lent.numbers;
+            second::event(&mut lent.target, row, event, mark, class)
         },
         |lent| {
             let row = lent.numbers[0];
             second::pass(&lent.source, &mut lent.target, row, &mut lent.answers)
         },
         |lent| {
-            let [row, choice, mark] = lent.numbers;
-            second::settle(&lent.source, &mut lent.target, row, choice, mark)
+            let [row, choice, mark, class] = lent.numbers;
+            second::settle(&lent.source, &mut lent.target, row, choice, mark, class)
         },
         |lent| {
             let (answer, part) = second::beneath(&lent.target, lent.numbers[0]);
@@ -133,7 +133,12 @@ fn damaged(random: &mut Random) -> Lent {
         wide: vec![9; Width::Wide.length(rows)],
         answers: vec![9; answers as usize],
         columns: width.columns() as u32,
-        numbers: [row as u32, random.within(0..5) as u32, random.word()],
+        numbers: [
+            row as u32,
+            random.within(0..5) as u32,
+            random.word(),
+            random.within(0..12) as u32,
+        ],
         plan,
     };
     if width == Width::Narrow && random.once_in(10) {
@@ -198,7 +203,7 @@ fn garbage(random: &mut Random) -> Lent {
 fn try_cases(cases: usize, case: fn(&mut Random) -> Lent) -> Tally {
     println!("seed {SEED}");
     let mut random = Random::new(SEED);
-    let mut tally = [0; 20];
+    let mut tally = Tally::default();
     for _ in 0..cases {
         try_all(&case(&mut random), &mut tally);
     }
@@ -210,8 +215,8 @@ fn try_cases(cases: usize, case: fn(&mut Random) -> Lent) -> Tally {
 fn damaged_tables() {
     let tally = try_cases(40_000, damaged);
     for (number, given) in tally.into_iter().enumerate() {
-        // There is no refusal 18.
-        assert_eq!(given > 0, number != 18, "{number}");
+        // There is no refusal 18, and none 20.
+        assert_eq!(given > 0, number != 18 && number != 20, "{number}");
     }
 }
 

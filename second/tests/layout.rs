@@ -133,7 +133,7 @@ fn order() {
 #[test]
 fn whole_table_is_judged_by_1_then_2_then_3() {
     for worked in Worked::both() {
-        let rule = (worked.at(0, word::BLANK), 1);
+        let rule = (worked.at(0, word::CLASS), 1);
         let order = (worked.at(4, word::KIND), 9);
         let head = (worked.width.row() - 1, 1);
         worked.gives(3, &[rule]);
@@ -148,12 +148,9 @@ fn words_of_each_kind() {
         let gives = |number, row, word, value| {
             worked.gives(number, &[(worked.at(row, word), value)]);
         };
-        for row in 0..5 {
-            gives(3, row, word::BLANK, 1);
-        }
-        // Words 2 to 6 of folders and of the row that is never.
+        // Words 2 to 7 of folders and of the row that is never.
         for row in [0, 1, 4] {
-            for word in 2..7 {
+            for word in 2..8 {
                 gives(3, row, word, 1);
             }
             worked.gives(3, &[2, 3, 4, 5].map(|word| (worked.at(row, word), 1)));
@@ -165,10 +162,16 @@ fn words_of_each_kind() {
         }
         gives(0, 2, word::MARK, 0);
         gives(0, 2, word::MARK, u32::MAX);
+        for class in 0..=9 {
+            gives(0, 2, word::CLASS, class);
+        }
+        for class in [10, 11, 255, 256, u32::MAX] {
+            gives(3, 2, word::CLASS, class);
+        }
         // The removed row.
         gives(3, 3, word::STAMP, worked.no_device());
         gives(3, 3, word::STAMP + 1, 0);
-        for word in 4..7 {
+        for word in 4..8 {
             gives(3, 3, word, 1);
         }
         // The last three vectors of sheets.

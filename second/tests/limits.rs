@@ -112,13 +112,16 @@ fn counter_has_an_end() {
     for width in Width::BOTH {
         let mut table = new_table(width, 3, &PLAN);
         table[head::COUNTER] = 4_294_967_294;
-        assert_eq!(second::event(&mut table, 2, CREATE, 1), done(4_294_967_295));
+        assert_eq!(
+            second::event(&mut table, 2, CREATE, 1, 0),
+            done(4_294_967_295)
+        );
         assert_sound(&table);
 
         let before = table.clone();
-        assert_eq!(second::event(&mut table, 2, CHANGE, 2), refused(15));
-        assert_eq!(second::event(&mut table, 2, REMOVAL, 2), refused(15));
-        assert_eq!(second::event(&mut table, 3, CREATE, 2), refused(15));
+        assert_eq!(second::event(&mut table, 2, CHANGE, 2, 0), refused(15));
+        assert_eq!(second::event(&mut table, 2, REMOVAL, 2, 0), refused(15));
+        assert_eq!(second::event(&mut table, 3, CREATE, 2, 0), refused(15));
         assert_eq!(table, before);
     }
 }
@@ -132,8 +135,8 @@ fn full_counter_still_settles_without_a_stamp() {
             desk.event(1, 2, CREATE, 2);
             desk.tables[1][head::COUNTER] = u32::MAX;
             let (source, target) = pair(&mut desk.tables, 0, 1);
-            assert_eq!(second::settle(source, target, 2, NEW, 3), refused(15));
-            assert_eq!(second::settle(source, target, 2, choice, 3), done(0));
+            assert_eq!(second::settle(source, target, 2, NEW, 3, 0), refused(15));
+            assert_eq!(second::settle(source, target, 2, choice, 3, 0), done(0));
             assert_sound(target);
         }
     }

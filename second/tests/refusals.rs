@@ -13,6 +13,7 @@ struct Lent {
     row: u32,
     /// The event or choice.
     choice: u32,
+    class: u32,
     /// A pass's answers, or the words of a widened table.
     output: Vec<u32>,
 }
@@ -23,13 +24,13 @@ type Fault = (u32, fn(&mut Lent));
 const SOURCE: [Fault; 3] = [
     (1, |lent| break_head(&mut lent.source)),
     (2, |lent| put(&mut lent.source, 4, word::KIND, 4)),
-    (3, |lent| put(&mut lent.source, 4, word::BLANK, 1)),
+    (3, |lent| put(&mut lent.source, 4, word::CLASS, 1)),
 ];
 
 const TARGET: [Fault; 3] = [
     (11, |lent| break_head(&mut lent.target)),
     (12, |lent| put(&mut lent.target, 4, word::KIND, 4)),
-    (13, |lent| put(&mut lent.target, 4, word::BLANK, 1)),
+    (13, |lent| put(&mut lent.target, 4, word::CLASS, 1)),
 ];
 
 const WIDTHS: [Fault; 2] = [
@@ -54,11 +55,14 @@ const TOO_LONG: Fault = (9, |lent| lent.output.extend([7; 2]));
 const TOO_SHORT: Fault = (9, |lent| lent.output.clear());
 const A_FOLDER: Fault = (10, |lent| lent.row = 1);
 const A_LIVE_SHEET: Fault = (10, |lent| lent.row = 2);
+const A_SHEET_NEVER_USED: Fault = (10, |lent| lent.row = 3);
 const NO_CONFLICT: Fault = (14, |lent| lent.row = 3);
 const SOURCE_FULL: Fault = (15, |lent| lent.source[head::COUNTER] = u32::MAX);
 const TARGET_FULL: Fault = (15, |lent| lent.target[head::COUNTER] = u32::MAX);
 const CHOICE_0: Fault = (16, |lent| lent.choice = 0);
 const CHOICE_4: Fault = (16, |lent| lent.choice = 4);
+const CLASS_10: Fault = (21, |lent| lent.class = 10);
+const CLASS_MAX: Fault = (21, |lent| lent.class = u32::MAX);
 
 /// Changes a word of a row.
 fn put(table: &mut [u32], row: usize, word: usize, value: u32) {
@@ -96,6 +100,7 @@ fn sound(width: Width) -> Lent {
         target: desk.tables[1].clone(),
         row: 2,
         choice: NEW,
+        class: LAST_CLASS,
         output: vec![7],
     }
 }
@@ -144,10 +149,11 @@ fn of_an_event() {
             lent.row = 3;
             lent.choice = CREATE;
         },
-        |lent| second::event(&mut lent.source, lent.row, lent.choice, 9),
+        |lent| second::event(&mut lent.source, lent.row, lent.choice, 9, lent.class),
         &[
             &SOURCE,
             &[CHOICE_0, CHOICE_4],
+            &[CLASS_10, CLASS_MAX],
             &[NO_ROW, NO_ROW_AT_ALL],
             &[A_FOLDER, A_LIVE_SHEET],
             &[SOURCE_FULL],
@@ -175,7 +181,7 @@ fn of_a_pass() {
 fn of_a_settling() {
     assert_orders(
         |_| (),
-        |lent| second::settle(&lent.source, &mut lent.target, lent.row, lent.choice, 9),
+        settle,
         &[
             &SOURCE,
             &TARGET,
@@ -183,11 +189,70 @@ fn of_a_settling() {
             &PAIR,
             &[NO_ROW, NO_ROW_AT_ALL],
             &[CHOICE_0, CHOICE_4],
+            &[CLASS_10, CLASS_MAX],
             &[A_FOLDER],
             &[NO_CONFLICT],
             &[TARGET_FULL],
         ],
     );
+}
+
+/// A settling of what is lent.
+fn settle(lent: &mut Lent) -> Answer {
+    let Lent {
+        row, choice, class, ..
+    } = *lent;
+    second::settle(&lent.source, &mut lent.target, row, choice, 9, class)
+}
+
+/// A change of what is lent.
+fn change(lent: &mut Lent) -> Answer {
+    second::event(&mut lent.source, lent.row, CHANGE, 9, lent.class)
+}
+
+#[test]
+fn of_a_change() {
+    assert_orders(
+        |_| (),
+        change,
+        &[
+            &SOURCE,
+            &[CLASS_10, CLASS_MAX],
+            &[NO_ROW, NO_ROW_AT_ALL],
+            &[A_FOLDER, A_SHEET_NEVER_USED],
+            &[SOURCE_FULL],
+        ],
+    );
+}
+
+#[test]
+fn of_a_removal_whatever_the_class() {
+    for class in [0, LAST_CLASS, LAST_CLASS + 1, u32::MAX] {
+        for width in Width::BOTH {
+            let Lent { mut source, .. } = sound(width);
+            let before = source.clone();
+            assert_eq!(
+                second::event(&mut source, 3, REMOVAL, 9, class),
+                refused(10)
+            );
+            assert_eq!(source, before);
+            assert_eq!(second::event(&mut source, 2, REMOVAL, 9, class), done(3));
+        }
+    }
+}
+
+#[test]
+fn of_theirs_and_own_whatever_the_class() {
+    for class in [0, LAST_CLASS, LAST_CLASS + 1, u32::MAX] {
+        for choice in [THEIRS, OWN] {
+            for width in Width::BOTH {
+                let mut lent = sound(width);
+                (lent.choice, lent.class) = (choice, class);
+                assert_eq!(settle(&mut lent).number, 0);
+                assert_eq!(settle(&mut lent), refused(14));
+            }
+        }
+    }
 }
 
 #[test]

@@ -2,7 +2,7 @@
 
 mod common;
 
-use std::collections::BTreeSet;
+use std::collections::{BTreeMap, BTreeSet};
 
 use common::*;
 use second::history::{Act, Choice, Event, History, Ruling, State};
@@ -32,6 +32,8 @@ struct Run {
     sheets: Vec<usize>,
     desk: Desk,
     history: History,
+    /// What each event gave its sheet, by its device and count.
+    contents: BTreeMap<(u32, u32), Content>,
 }
 
 impl Drop for Run {
@@ -60,6 +62,7 @@ impl Run {
                 tables: (0..devices as u32).map(&mut table).collect(),
             },
             history: History::new(devices, &sheets),
+            contents: BTreeMap::new(),
             random,
             plan,
             sheets,
@@ -77,6 +80,14 @@ impl Run {
                 self.settle(source, target, row, tally);
             }
             _ => self.pass(tally),
+        }
+    }
+
+    /// What a sheet may hold.
+    fn some_content(&mut self) -> Content {
+        Content {
+            mark: self.random.word(),
+            class: self.random.within(0..10) as u32,
         }
     }
 
@@ -101,7 +112,7 @@ impl Run {
         let mut answers = vec![u32::MAX; size(&before[target], row)];
         let (source, target) = pair(&mut self.desk.tables, source, target);
         let passed = second::pass(source, target, row as u32, &mut answers);
-        let settled = second::settle(source, target, row as u32, OWN, 1);
+        let settled = second::settle(source, target, row as u32, OWN, 1, 0);
         assert_eq!([passed, settled], [refused(19); 2]);
         assert_eq!(self.desk.tables, before);
         assert!(answers.iter().all(|&answer| answer == u32::MAX));
@@ -118,10 +129,11 @@ impl Run {
         } else {
             (REMOVAL, Act::Remove)
         };
-        let mark = self.random.word();
-        let count = self.desk.event(device, row, event, mark);
+        let content = self.some_content();
+        let count = self.desk.event_with(device, row, event, content);
         let said = self.history.event(device, row, act);
         assert_eq!(said, Some(count));
+        self.contents.insert((device as u32, count), content);
         self.assert_agreed(device);
     }
 
@@ -186,13 +198,17 @@ impl Run {
             (OWN, Choice::Own),
             (NEW, Choice::New),
         ]);
-        let mark = self.random.word();
+        let content = self.some_content();
+        let Content { mark, class } = content;
         self.assert_ahead(source, target, row);
         let (source_words, target_words) = pair(&mut self.desk.tables, source, target);
-        let answer = second::settle(source_words, target_words, row as u32, number, mark);
+        let answer = second::settle(source_words, target_words, row as u32, number, mark, class);
         let said = self.history.settle(source, target, row, choice);
         assert_eq!(answer, said.map_or(refused(14), done));
         tally.settlings += u32::from(said.is_some());
+        if answer.count > 0 {
+            self.contents.insert((target as u32, answer.count), content);
+        }
         assert_sound(&self.desk.tables[target]);
         self.assert_agreed(target);
     }
@@ -216,7 +232,7 @@ impl Run {
     }
 
     /// A device's table and its history tell the same of every sheet: what it is, by which event, and which
-    /// events of the sheet have been taken into account anywhere and here.
+    /// events of the sheet have been taken into account anywhere and here. A live sheet holds what that event gave it.
     fn assert_agreed(&self, device: usize) {
         let table = &self.desk.tables[device];
         for (row, sheet) in self.history.sheets(device) {
@@ -231,6 +247,16 @@ impl Run {
                 birth_event,
                 "birth of row {row}"
             );
+
+            let holds = Content {
+                mark: mark(table, row),
+                class: class(table, row),
+            };
+            let given = match sheet.state {
+                State::Live { .. } => self.contents[&stamp(table, row)],
+                State::Never | State::Removed { .. } => Content::NONE,
+            };
+            assert_eq!(holds, given, "content of row {row}");
 
             let known = known(table, row);
             for event in self.events_of(row) {

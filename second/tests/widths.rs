@@ -147,7 +147,7 @@ fn a_widened_table_hears_of_device_15() {
     let mut desk = worked();
     desk.widen(0);
     let mut late = new_table(Width::Wide, 15, &PLAN);
-    assert_eq!(second::event(&mut late, 4, CREATE, 77), done(1));
+    assert_eq!(second::event(&mut late, 4, CREATE, 77, 0), done(1));
     let mut answers = [9; 5];
     let answer = second::pass(&late, &mut desk.tables[0], 0, &mut answers);
     assert_eq!((answer, answers), (done(3), [4, 5, 0, 0, 1]));
@@ -168,7 +168,10 @@ fn every_call_on_two_widths_gives_19() {
             second::pass(source, &mut after, 0, &mut answers),
             refused(19)
         );
-        assert_eq!(second::settle(source, &mut after, 2, OWN, 1), refused(19));
+        assert_eq!(
+            second::settle(source, &mut after, 2, OWN, 1, 0),
+            refused(19)
+        );
         let (answer, side) = second::standing(source, &after, 2);
         assert_eq!((answer, side), (refused(19), second::Side::None));
         assert_eq!(second::ahead(source, &after, 2), masks(19, 0, 0));

@@ -5,16 +5,28 @@
 //! of it: conflict.
 
 use kettleflock::{
-    ahead, pass, settle, Answer, Choice, Columns, Devices, Kind, Passed, Plan, Refusal, Table,
+    ahead, pass, settle, Answer, Choice, Columns, Content, Devices, Kind, Passed, Plan, Refusal,
+    Table,
 };
 
 /// The duty sheet's row: a folder of two sheets and another sheet beneath the root.
 const SHEET: usize = 2;
 
-/// The figure on a device's sheet, if there is one.
+/// The sheet's class of duty.
+const CLASS: u32 = 3;
+
+/// What the sheet holds with this figure.
+fn filed(figure: u32) -> Content {
+    Content {
+        mark: figure,
+        class: CLASS,
+    }
+}
+
+/// The figure on a device's sheet, if there is one of its class.
 fn figure(table: &Table) -> Option<u32> {
     match table.row(SHEET)?.kind() {
-        Kind::Live { mark, .. } => Some(mark),
+        Kind::Live { content, .. } if content.class == CLASS => Some(content.mark),
         _ => None,
     }
 }
@@ -48,14 +60,14 @@ fn main() -> Result<(), Refusal> {
     let mut laptop = Table::new(Columns::Eight, 2, &plan)?;
 
     println!("The desk files a sheet, 700, and the tablet and the laptop take it along.");
-    desk.create(SHEET, 700)?;
+    desk.create(SHEET, filed(700))?;
     tell("desk to tablet", &pass(&desk, &mut tablet, 0)?, &tablet);
     tell("desk to laptop", &pass(&desk, &mut laptop, 0)?, &laptop);
 
     println!(
         "The desk corrects it to 650, and the laptop hears of it. The tablet lies in a drawer."
     );
-    desk.change(SHEET, 650)?;
+    desk.change(SHEET, filed(650))?;
     tell("desk to laptop", &pass(&desk, &mut laptop, 0)?, &laptop);
 
     println!("The old tablet is synchronized.");
@@ -68,7 +80,7 @@ fn main() -> Result<(), Refusal> {
     println!("The correction {fate}.");
 
     println!("Another day: the captain corrects the tablet's copy to 640 before it hears of 650.");
-    tablet.change(SHEET, 640)?;
+    tablet.change(SHEET, filed(640))?;
     let both = pass(&tablet, &mut desk, 0)?;
     tell("tablet to desk", &both, &desk);
     let said = both.conflicts().any(|row| row == SHEET);
@@ -89,7 +101,7 @@ fn main() -> Result<(), Refusal> {
     );
 
     println!("The desk settles by a new figure, 645, and it goes out.");
-    settle(&tablet, &mut desk, SHEET, Choice::New { mark: 645 })?;
+    settle(&tablet, &mut desk, SHEET, Choice::New(filed(645)))?;
     tell("desk to tablet", &pass(&desk, &mut tablet, 0)?, &tablet);
     tell("desk to laptop", &pass(&desk, &mut laptop, 0)?, &laptop);
 

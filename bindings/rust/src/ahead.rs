@@ -42,15 +42,15 @@ pub struct Ahead {
 /// Nothing is changed.
 ///
 /// ```
-/// use kettleflock::{ahead, Columns, Plan, Refusal, Table};
+/// use kettleflock::{ahead, Columns, Content, Plan, Refusal, Table};
 ///
 /// let plan = Plan::folder([Plan::sheet()]);
 /// let mut desk = Table::new(Columns::Eight, 0, &plan)?;
 /// let mut tablet = Table::new(Columns::Eight, 1, &plan)?;
-/// desk.create(1, 10)?;
+/// desk.create(1, Content { mark: 10, class: 0 })?;
 /// assert_eq!(ahead(&desk, &tablet, 1), Err(Refusal::NoConflict));
 ///
-/// tablet.create(1, 20)?;
+/// tablet.create(1, Content { mark: 20, class: 0 })?;
 /// let ahead = ahead(&desk, &tablet, 1)?;
 /// assert_eq!(ahead.source.iter().collect::<Vec<_>>(), [0]);
 /// assert!(ahead.target.contains(1));

@@ -5,13 +5,14 @@
 //!
 //! ```
 //! use kettleflock::layout::{head, row, Columns};
-//! use kettleflock::{Plan, Table};
+//! use kettleflock::{Content, Plan, Table};
 //!
 //! let mut table = Table::new(Columns::Eight, 3, &Plan::folder([Plan::sheet()]))?;
-//! table.create(1, 700)?;
+//! table.create(1, Content { mark: 700, class: 3 })?;
 //! let words = table.into_words();
 //! assert_eq!(words[head::DEVICE], 3);
 //! assert_eq!(words[Columns::Eight.row(1) + row::MARK], 700);
+//! assert_eq!(words[Columns::Eight.row(1) + row::CLASS], 3);
 //! # Ok::<(), kettleflock::Refusal>(())
 //! ```
 
@@ -39,6 +40,8 @@ pub mod row {
     pub const BIRTH: usize = 4;
     /// The mark.
     pub const MARK: usize = 6;
+    /// The class of duty.
+    pub const CLASS: usize = 7;
     /// The first of the four vectors, the floor. The others follow: see [`Columns`](super::Columns).
     pub const FLOOR: usize = 8;
 }

@@ -5,18 +5,18 @@
 //! somebody chooses: see [`settle`], and [`ahead`](ahead()) for who is ahead.
 //!
 //! ```
-//! use kettleflock::{pass, settle, Answer, Choice, Columns, Plan, Table};
+//! use kettleflock::{pass, settle, Answer, Choice, Columns, Content, Plan, Table};
 //!
 //! let plan = Plan::folder([Plan::folder([Plan::sheet(), Plan::sheet()]), Plan::sheet()]);
 //! let mut desk = Table::new(Columns::Eight, 0, &plan)?;
 //! let mut tablet = Table::new(Columns::Eight, 1, &plan)?;
 //!
-//! desk.create(2, 700)?;
+//! desk.create(2, Content { mark: 700, class: 0 })?;
 //! assert_eq!(pass(&desk, &mut tablet, 0)?.answer(2), Some(Answer::Copy));
 //!
 //! // Both correct the sheet, and somebody is asked.
-//! desk.change(2, 701)?;
-//! tablet.change(2, 702)?;
+//! desk.change(2, Content { mark: 701, class: 0 })?;
+//! tablet.change(2, Content { mark: 702, class: 0 })?;
 //! assert_eq!(pass(&desk, &mut tablet, 0)?.answer(2), Some(Answer::Conflict));
 //! settle(&desk, &mut tablet, 2, Choice::Own)?;
 //! assert_eq!(pass(&tablet, &mut desk, 0)?.answer(2), Some(Answer::Copy));
@@ -38,26 +38,26 @@
 //! 4. Bring a sheet's content before you save the table that says it came. A pass doesn't say copy twice.
 //!
 //! ```
-//! use kettleflock::{pass, Answer, Columns, Plan, Refusal, Table};
+//! use kettleflock::{pass, Answer, Columns, Content, Plan, Refusal, Table};
 //!
 //! let plan = Plan::folder([Plan::sheet()]);
 //! let mut desk = Table::new(Columns::Eight, 0, &plan)?;
 //! let mut tablet = Table::new(Columns::Eight, 1, &plan)?;
-//! tablet.create(1, 700)?;
+//! tablet.create(1, Content { mark: 700, class: 0 })?;
 //! let backup = tablet.clone();
-//! tablet.change(1, 650)?;
+//! tablet.change(1, Content { mark: 650, class: 0 })?;
 //! assert_eq!(pass(&tablet, &mut desk, 0)?.answer(1), Some(Answer::Copy));
 //!
 //! // Gone on from its backup, the tablet loses a correction: keep, and the desk still has 650.
 //! let mut restored = backup.clone();
 //! assert_eq!(pass(&restored, &mut desk, 0), Err(Refusal::TargetAhead));
-//! restored.change(1, 640)?;
+//! restored.change(1, Content { mark: 640, class: 0 })?;
 //! assert_eq!(pass(&restored, &mut desk, 0)?.answer(1), Some(Answer::Keep));
 //!
 //! // With a fresh number it doesn't.
 //! let mut fresh = Table::new(Columns::Eight, 2, &plan)?;
 //! assert_eq!(pass(&backup, &mut fresh, 0)?.answer(1), Some(Answer::Copy));
-//! fresh.change(1, 640)?;
+//! fresh.change(1, Content { mark: 640, class: 0 })?;
 //! assert_eq!(pass(&fresh, &mut desk, 0)?.answer(1), Some(Answer::Conflict));
 //! # Ok::<(), Refusal>(())
 //! ```
@@ -68,18 +68,18 @@
 //! the removals can bring it back to both, and no conflict is said of the other removal:
 //!
 //! ```
-//! use kettleflock::{pass, settle, Answer, Choice, Columns, Plan, Refusal, Table};
+//! use kettleflock::{pass, settle, Answer, Choice, Columns, Content, Plan, Refusal, Table};
 //!
 //! let plan = Plan::folder([Plan::sheet()]);
 //! let mut desk = Table::new(Columns::Eight, 0, &plan)?;
 //! let mut tablet = Table::new(Columns::Eight, 1, &plan)?;
 //! let mut laptop = Table::new(Columns::Eight, 2, &plan)?;
-//! desk.create(1, 700)?;
+//! desk.create(1, Content { mark: 700, class: 0 })?;
 //! assert_eq!(pass(&desk, &mut tablet, 0)?.answer(1), Some(Answer::Copy));
 //! assert_eq!(pass(&desk, &mut laptop, 0)?.answer(1), Some(Answer::Copy));
 //! tablet.remove(1)?;
 //! desk.remove(1)?;
-//! laptop.change(1, 701)?;
+//! laptop.change(1, Content { mark: 701, class: 0 })?;
 //! assert_eq!(pass(&tablet, &mut laptop, 0)?.answer(1), Some(Answer::Conflict));
 //! settle(&tablet, &mut laptop, 1, Choice::Own)?;
 //! assert_eq!(pass(&laptop, &mut desk, 0)?.answer(1), Some(Answer::Conflict));
@@ -119,7 +119,7 @@ pub use layout::Columns;
 pub use pass::{pass, settle, standing, Answer, Choice, Passed, Standing};
 pub use plan::Plan;
 pub use refusal::Refusal;
-pub use row::{Kind, Row, Rows, Stamp};
+pub use row::{Content, Kind, Row, Rows, Stamp};
 pub use table::Table;
 
 /// The count of a call that succeeded.

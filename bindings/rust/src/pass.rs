@@ -1,6 +1,6 @@
 //! Passing from one table to another, settling, and seeing what stands.
 
-use crate::row::Row;
+use crate::row::{Content, Row};
 use crate::table::Table;
 use crate::{number, raw, succeed, Refusal};
 
@@ -106,11 +106,8 @@ pub enum Choice {
     Theirs,
     /// The target's sheet, or its removal, stays.
     Own,
-    /// The target's sheet is live, with a new stamp and this mark.
-    New {
-        /// What stands for the new content.
-        mark: u32,
-    },
+    /// The target's sheet is live, with a new stamp, and holds this.
+    New(Content),
 }
 
 /// The row that stands if a source is passed to a target.
@@ -130,12 +127,12 @@ pub enum Standing<'a> {
 /// The target's sheets and times are brought up to date, but for conflicts, which change nothing.
 ///
 /// ```
-/// use kettleflock::{pass, Answer, Columns, Plan, Table};
+/// use kettleflock::{pass, Answer, Columns, Content, Plan, Table};
 ///
 /// let plan = Plan::folder([Plan::folder([Plan::sheet(), Plan::sheet()]), Plan::sheet()]);
 /// let mut desk = Table::new(Columns::Eight, 0, &plan)?;
 /// let mut tablet = Table::new(Columns::Eight, 1, &plan)?;
-/// desk.create(2, 700)?;
+/// desk.create(2, Content { mark: 700, class: 0 })?;
 ///
 /// let passed = pass(&desk, &mut tablet, 0)?;
 /// assert_eq!(passed.answer(2), Some(Answer::Copy));
@@ -173,42 +170,44 @@ pub fn pass(source: &Table, target: &mut Table, row: usize) -> Result<Passed, Re
 /// makes one.
 ///
 /// ```
-/// use kettleflock::{pass, settle, Choice, Columns, Plan, Table};
+/// use kettleflock::{pass, settle, Choice, Columns, Content, Plan, Table};
 ///
 /// let plan = Plan::folder([Plan::sheet()]);
 /// let mut desk = Table::new(Columns::Eight, 0, &plan)?;
 /// let mut tablet = Table::new(Columns::Eight, 1, &plan)?;
-/// desk.create(1, 10)?;
-/// tablet.create(1, 20)?;
+/// desk.create(1, Content { mark: 10, class: 0 })?;
+/// tablet.create(1, Content { mark: 20, class: 0 })?;
 ///
 /// let conflicts: Vec<usize> = pass(&desk, &mut tablet, 0)?.conflicts().collect();
 /// assert_eq!(conflicts, [1]);
-/// assert_eq!(settle(&desk, &mut tablet, 1, Choice::New { mark: 30 })?, Some(2));
+/// let new = Choice::New(Content { mark: 30, class: 0 });
+/// assert_eq!(settle(&desk, &mut tablet, 1, new)?, Some(2));
 /// assert_eq!(pass(&desk, &mut tablet, 0)?.conflicts().count(), 0);
 /// # Ok::<(), kettleflock::Refusal>(())
 /// ```
 ///
 /// # Errors
 ///
-/// Those of [`pass`]; the row is a folder ([`Refusal::Unfit`]); the rules don't say conflict there
-/// ([`Refusal::NoConflict`]); a new stamp is needed and the device has no next count ([`Refusal::CounterFull`]).
+/// Those of [`pass`]; there is no such class ([`Refusal::NoSuchClass`]); the row is a folder ([`Refusal::Unfit`]); the rules
+/// don't say conflict there ([`Refusal::NoConflict`]); a new stamp is needed and the device has no next count ([`Refusal::CounterFull`]).
 pub fn settle(
     source: &Table,
     target: &mut Table,
     row: usize,
     choice: Choice,
 ) -> Result<Option<u32>, Refusal> {
-    let (choice, mark) = match choice {
-        Choice::Theirs => (1, 0),
-        Choice::Own => (2, 0),
-        Choice::New { mark } => (3, mark),
+    let (choice, content) = match choice {
+        Choice::Theirs => (1, Content::IGNORED),
+        Choice::Own => (2, Content::IGNORED),
+        Choice::New(content) => (3, content),
     };
     let answer = raw::settle(
         source.words(),
         target.words_mut(),
         number(row),
         choice,
-        mark,
+        content.mark,
+        content.class,
     );
     let count = succeed(answer)?;
     Ok((count > 0).then_some(count))
@@ -217,12 +216,12 @@ pub fn settle(
 /// The row that stands if the source is passed to the target. Nothing is changed.
 ///
 /// ```
-/// use kettleflock::{standing, Columns, Plan, Standing, Table};
+/// use kettleflock::{standing, Columns, Content, Plan, Standing, Table};
 ///
 /// let plan = Plan::folder([Plan::sheet()]);
 /// let mut desk = Table::new(Columns::Eight, 0, &plan)?;
 /// let tablet = Table::new(Columns::Eight, 1, &plan)?;
-/// desk.create(1, 10)?;
+/// desk.create(1, Content { mark: 10, class: 0 })?;
 ///
 /// assert!(matches!(standing(&desk, &tablet, 1)?, Standing::Source(_)));
 /// assert!(matches!(standing(&tablet, &desk, 1)?, Standing::Target(_)));

@@ -39,7 +39,7 @@ pub struct Masks {
 }
 
 /// The version of the library that this crate belongs to, as [`version`] gives it.
-pub const VERSION: u32 = 4;
+pub const VERSION: u32 = 5;
 
 mod exports {
     use super::{Answer, Masks};
@@ -66,6 +66,7 @@ mod exports {
             row: u32,
             event: u32,
             mark: u32,
+            class: u32,
         ) -> Answer;
         pub fn kf_pass(
             source: *const u32,
@@ -84,6 +85,7 @@ mod exports {
             row: u32,
             choice: u32,
             mark: u32,
+            class: u32,
         ) -> Answer;
         pub fn kf_beneath(table: *const u32, table_length: usize, row: u32) -> Answer;
         pub fn kf_standing(
@@ -160,10 +162,10 @@ pub fn widen(table: &[u32], wide: &mut [u32]) -> Answer {
     unsafe { exports::kf_widen(table.as_ptr(), table.len(), wide.as_mut_ptr(), wide.len()) }
 }
 
-/// Creates (1), changes (2) or removes (3) a sheet; counts the new stamp.
-pub fn event(table: &mut [u32], row: u32, event: u32, mark: u32) -> Answer {
+/// Creates (1), changes (2) or removes (3) a sheet; counts the new stamp. A removal ignores mark and class.
+pub fn event(table: &mut [u32], row: u32, event: u32, mark: u32, class: u32) -> Answer {
     // SAFETY: see above.
-    unsafe { exports::kf_event(table.as_mut_ptr(), table.len(), row, event, mark) }
+    unsafe { exports::kf_event(table.as_mut_ptr(), table.len(), row, event, mark, class) }
 }
 
 /// Passes a row and all beneath it from source to target; counts the rows looked at. Each row's answer is 0 keep,
@@ -183,8 +185,16 @@ pub fn pass(source: &[u32], target: &mut [u32], row: u32, answers: &mut [u32]) -
     }
 }
 
-/// Settles a conflict by theirs (1), own (2) or new (3); counts the new stamp, 0 if there is none.
-pub fn settle(source: &[u32], target: &mut [u32], row: u32, choice: u32, mark: u32) -> Answer {
+/// Settles a conflict by theirs (1), own (2) or new (3); counts the new stamp, 0 if there is none. Theirs and own ignore
+/// mark and class.
+pub fn settle(
+    source: &[u32],
+    target: &mut [u32],
+    row: u32,
+    choice: u32,
+    mark: u32,
+    class: u32,
+) -> Answer {
     // SAFETY: see above.
     unsafe {
         exports::kf_settle(
@@ -195,6 +205,7 @@ pub fn settle(source: &[u32], target: &mut [u32], row: u32, choice: u32, mark: u
             row,
             choice,
             mark,
+            class,
         )
     }
 }

@@ -55,6 +55,8 @@ pub enum Refusal {
     NoSuchDevice,
     /// The two tables differ in width, or the table to be widened is wide.
     Width,
+    /// There is no such class of duty.
+    NoSuchClass,
     /// A number that this crate has no name for: the library is newer.
     Unknown(u32),
 }
@@ -80,6 +82,7 @@ impl Refusal {
         Refusal::NoSuchChoice,
         Refusal::NoSuchDevice,
         Refusal::Width,
+        Refusal::NoSuchClass,
     ];
 
     /// The refusal of this number; `None` for 0, which is success.
@@ -146,6 +149,10 @@ impl Refusal {
                 "two tables of different width; new table's columns neither 8 nor 16; widening a \
                  table that is wide already",
             ),
+            Refusal::NoSuchClass => (
+                21,
+                "a class above 9 where one is taken: creating, changing, settling by new",
+            ),
             Refusal::Unknown(number) => (number, "a refusal that this crate has no words for"),
         }
     }
@@ -160,7 +167,8 @@ const ORDER: &str =
     "a kind is above 3, or sizes, row 0 or levels break the order of rows; or a plan \
                      that would give such rows";
 /// What is wrong with a table otherwise.
-const RULE: &str = "any other rule of the layout or the times is broken";
+const RULE: &str =
+    "any other rule of the layout or the times is broken; a live row's class above 9";
 
 impl fmt::Display for Refusal {
     fn fmt(&self, out: &mut fmt::Formatter<'_>) -> fmt::Result {

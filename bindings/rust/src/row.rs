@@ -11,6 +11,23 @@ pub struct Stamp {
     pub count: u32,
 }
 
+/// What a live sheet holds. It travels with the sheet, and nothing compares it.
+#[derive(Clone, Copy, Debug, PartialEq, Eq, Hash)]
+pub struct Content {
+    /// What stands for the content itself.
+    pub mark: u32,
+    /// The class of duty, 0 to [`Content::LAST_CLASS`].
+    pub class: u32,
+}
+
+impl Content {
+    /// The last class of duty.
+    pub const LAST_CLASS: u32 = 9;
+
+    /// For calls that ignore it.
+    pub(crate) const IGNORED: Content = Content { mark: 0, class: 0 };
+}
+
 /// What a row is.
 #[derive(Clone, Copy, Debug, PartialEq, Eq, Hash)]
 pub enum Kind {
@@ -22,8 +39,8 @@ pub enum Kind {
         stamp: Stamp,
         /// The event that created it.
         birth: Stamp,
-        /// What stands for its content.
-        mark: u32,
+        /// What it holds.
+        content: Content,
     },
     /// A sheet that was there.
     Removed {
@@ -66,7 +83,10 @@ impl<'a> Row<'a> {
             kind::LIVE => Kind::Live {
                 stamp: self.stamp_at(row::STAMP),
                 birth: self.stamp_at(row::BIRTH),
-                mark: self.words[row::MARK],
+                content: Content {
+                    mark: self.words[row::MARK],
+                    class: self.words[row::CLASS],
+                },
             },
             kind::REMOVED => Kind::Removed {
                 stamp: self.stamp_at(row::STAMP),
@@ -84,12 +104,12 @@ impl<'a> Row<'a> {
     /// What the table knows here beyond the rows above: a count for each device.
     ///
     /// ```
-    /// use kettleflock::{pass, Columns, Plan, Table};
+    /// use kettleflock::{pass, Columns, Content, Plan, Table};
     ///
     /// let plan = Plan::folder([Plan::sheet()]);
     /// let mut desk = Table::new(Columns::Eight, 0, &plan)?;
     /// let mut tablet = Table::new(Columns::Eight, 1, &plan)?;
-    /// desk.create(1, 700)?;
+    /// desk.create(1, Content { mark: 700, class: 0 })?;
     /// assert_eq!(pass(&desk, &mut tablet, 0)?.looked_at(), 2);
     /// let sheet = tablet.row(1).expect("a row");
     /// assert_eq!(sheet.floor(), [1, 0, 0, 0, 0, 0, 0, 0]);
@@ -117,10 +137,10 @@ impl<'a> Row<'a> {
 /// Some rows that follow each other, read where they lie.
 ///
 /// ```
-/// use kettleflock::{Columns, Kind, Plan, Table};
+/// use kettleflock::{Columns, Content, Kind, Plan, Table};
 ///
 /// let mut table = Table::new(Columns::Sixteen, 9, &Plan::folder([Plan::sheet(), Plan::sheet()]))?;
-/// table.create(2, 700)?;
+/// table.create(2, Content { mark: 700, class: 0 })?;
 /// let live = table.rows().filter(|row| matches!(row.kind(), Kind::Live { .. }));
 /// assert_eq!(live.map(|row| row.number()).collect::<Vec<_>>(), [2]);
 /// # Ok::<(), kettleflock::Refusal>(())

@@ -2,19 +2,20 @@
 
 use crate::layout::{head, Columns};
 use crate::plan::Plan;
-use crate::row::{Row, Rows};
+use crate::row::{Content, Row, Rows};
 use crate::{number, raw, succeed, Refusal};
 
 /// A device's table of times for a tree of duty sheets. It is always sound.
 ///
 /// ```
-/// use kettleflock::{Columns, Kind, Plan, Table};
+/// use kettleflock::{Columns, Content, Kind, Plan, Table};
 ///
 /// let mut table = Table::new(Columns::Eight, 0, &Plan::folder([Plan::sheet()]))?;
-/// assert_eq!(table.create(1, 700)?, 1);
-/// assert_eq!(table.change(1, 701)?, 2);
+/// let corrected = Content { mark: 701, class: 3 };
+/// assert_eq!(table.create(1, Content { mark: 700, class: 3 })?, 1);
+/// assert_eq!(table.change(1, corrected)?, 2);
 /// let sheet = table.row(1).expect("a row");
-/// assert!(matches!(sheet.kind(), Kind::Live { mark: 701, .. }));
+/// assert!(matches!(sheet.kind(), Kind::Live { content, .. } if content == corrected));
 /// # Ok::<(), kettleflock::Refusal>(())
 /// ```
 #[derive(Clone, Debug, PartialEq, Eq)]
@@ -69,12 +70,12 @@ impl Table {
     /// it; only tables of one width can be passed to each other.
     ///
     /// ```
-    /// use kettleflock::{pass, Columns, Plan, Refusal, Table};
+    /// use kettleflock::{pass, Columns, Content, Plan, Refusal, Table};
     ///
     /// let plan = Plan::folder([Plan::sheet()]);
     /// let mut desk = Table::new(Columns::Eight, 0, &plan)?;
     /// let mut ninth = Table::new(Columns::Sixteen, 8, &plan)?;
-    /// desk.create(1, 700)?;
+    /// desk.create(1, Content { mark: 700, class: 0 })?;
     /// assert_eq!(pass(&desk, &mut ninth, 0), Err(Refusal::Width));
     ///
     /// let desk = desk.widen()?;
@@ -168,20 +169,20 @@ impl Table {
     ///
     /// # Errors
     ///
-    /// There is no such row ([`Refusal::NoSuchRow`]); it is there already or is a folder ([`Refusal::Unfit`]); the device has no next count
-    /// ([`Refusal::CounterFull`]).
-    pub fn create(&mut self, row: usize, mark: u32) -> Result<u32, Refusal> {
-        self.event(row, Event::Create, mark)
+    /// There is no such class ([`Refusal::NoSuchClass`]) or row ([`Refusal::NoSuchRow`]); the sheet is there already or is a folder
+    /// ([`Refusal::Unfit`]); the device has no next count ([`Refusal::CounterFull`]).
+    pub fn create(&mut self, row: usize, content: Content) -> Result<u32, Refusal> {
+        self.event(row, Event::Create(content))
     }
 
     /// Changes a sheet that is there. Gives the count of the event.
     ///
     /// # Errors
     ///
-    /// There is no such row ([`Refusal::NoSuchRow`]); it isn't there or is a folder ([`Refusal::Unfit`]); the device has no next count
-    /// ([`Refusal::CounterFull`]).
-    pub fn change(&mut self, row: usize, mark: u32) -> Result<u32, Refusal> {
-        self.event(row, Event::Change, mark)
+    /// There is no such class ([`Refusal::NoSuchClass`]) or row ([`Refusal::NoSuchRow`]); the sheet isn't there or is a folder
+    /// ([`Refusal::Unfit`]); the device has no next count ([`Refusal::CounterFull`]).
+    pub fn change(&mut self, row: usize, content: Content) -> Result<u32, Refusal> {
+        self.event(row, Event::Change(content))
     }
 
     /// Removes a sheet that is there. Gives the count of the event.
@@ -191,19 +192,30 @@ impl Table {
     /// There is no such row ([`Refusal::NoSuchRow`]); it isn't there or is a folder ([`Refusal::Unfit`]); the device has no next count
     /// ([`Refusal::CounterFull`]).
     pub fn remove(&mut self, row: usize) -> Result<u32, Refusal> {
-        self.event(row, Event::Remove, 0)
+        self.event(row, Event::Remove)
     }
 
-    fn event(&mut self, row: usize, event: Event, mark: u32) -> Result<u32, Refusal> {
-        succeed(raw::event(&mut self.words, number(row), event as u32, mark))
+    fn event(&mut self, row: usize, event: Event) -> Result<u32, Refusal> {
+        let (event, Content { mark, class }) = event.numbers();
+        succeed(raw::event(&mut self.words, number(row), event, mark, class))
     }
 }
 
-/// What is done to a sheet, by the library's number for it.
+/// What is done to a sheet.
 #[derive(Clone, Copy)]
-#[repr(u32)]
 enum Event {
-    Create = 1,
-    Change = 2,
-    Remove = 3,
+    Create(Content),
+    Change(Content),
+    Remove,
+}
+
+impl Event {
+    /// The library's number for it, and the content that goes with it.
+    fn numbers(self) -> (u32, Content) {
+        match self {
+            Event::Create(content) => (1, content),
+            Event::Change(content) => (2, content),
+            Event::Remove => (3, Content::IGNORED),
+        }
+    }
 }

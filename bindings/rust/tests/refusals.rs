@@ -2,10 +2,11 @@
 
 mod common;
 
-use common::table;
+use common::{marked, table};
 use kettleflock::layout::{head, row};
 use kettleflock::{
-    ahead, pass, raw, settle, standing, Answer, Choice, Columns, Kind, Plan, Refusal, Stamp, Table,
+    ahead, pass, raw, settle, standing, Answer, Choice, Columns, Content, Kind, Plan, Refusal,
+    Stamp, Table,
 };
 
 const WIDTHS: [Columns; 2] = [Columns::Eight, Columns::Sixteen];
@@ -43,7 +44,7 @@ fn nobody_ahead(number: u32) -> raw::Masks {
 #[test]
 fn numbers_and_names_go_together() {
     let numbers: Vec<u32> = Refusal::ALL.iter().map(|no| no.number()).collect();
-    assert_eq!(numbers, (1..=17).chain([19]).collect::<Vec<_>>());
+    assert_eq!(numbers, (1..=17).chain([19, 21]).collect::<Vec<_>>());
     for refusal in Refusal::ALL {
         assert_eq!(Refusal::from_number(refusal.number()), Some(*refusal));
     }
@@ -124,6 +125,8 @@ fn words_that_are_no_table() {
         says(columns.row(0) + row::KIND, 9, Refusal::Order);
         says(columns.row(0) + row::SIZE, 4, Refusal::Order);
         says(columns.row(2) + row::MARK, 9, Refusal::Rule);
+        says(columns.row(2) + row::CLASS, 1, Refusal::Rule);
+        says(columns.row(1) + row::CLASS, 1, Refusal::Rule);
         says(columns.row(2) + row::FLOOR, 9, Refusal::Rule);
         says(columns.row(1) + columns.newest(), 1, Refusal::Rule);
         says(columns.row(1) + columns.least(), 1, Refusal::Rule);
@@ -146,7 +149,7 @@ fn the_sign_of_the_width() {
 fn stamps_go_by_the_width() {
     for columns in WIDTHS {
         let mut table = table(columns, 0);
-        table.create(2, 1).expect("a row never used");
+        table.create(2, marked(1)).expect("a row never used");
         let stamp = columns.row(2) + row::STAMP;
         let words = damaged(&table, stamp, columns as u32);
         assert_eq!(Table::from_words(words), Err(Refusal::Rule));
@@ -169,14 +172,14 @@ fn rows_at_most_256() {
 #[test]
 fn events() {
     let mut table = narrow(0);
-    assert_eq!(table.create(5, 1), Err(Refusal::NoSuchRow));
-    assert_eq!(table.create(usize::MAX, 1), Err(Refusal::NoSuchRow));
-    assert_eq!(table.create(1, 1), Err(Refusal::Unfit));
-    assert_eq!(table.change(2, 1), Err(Refusal::Unfit));
+    assert_eq!(table.create(5, marked(1)), Err(Refusal::NoSuchRow));
+    assert_eq!(table.create(usize::MAX, marked(1)), Err(Refusal::NoSuchRow));
+    assert_eq!(table.create(1, marked(1)), Err(Refusal::Unfit));
+    assert_eq!(table.change(2, marked(1)), Err(Refusal::Unfit));
     assert_eq!(table.remove(2), Err(Refusal::Unfit));
     assert_eq!(table.counter(), 0);
 
-    assert_eq!(table.create(2, 1), Ok(1));
+    assert_eq!(table.create(2, marked(1)), Ok(1));
     assert_eq!(table.remove(2), Ok(2));
     let stamp = Stamp {
         device: 0,
@@ -186,6 +189,57 @@ fn events() {
         table.row(2).map(|row| row.kind()),
         Some(Kind::Removed { stamp })
     );
+}
+
+#[test]
+fn classes_go_from_0_to_9() {
+    for columns in WIDTHS {
+        let (mut desk, mut tablet) = (table(columns, 0), table(columns, 1));
+        let of_class = |class| Content { mark: 700, class };
+        let is_live = |table: &Table, class| {
+            let kind = table.row(2).expect("a row").kind();
+            matches!(kind, Kind::Live { content, .. } if content == of_class(class))
+        };
+        assert_eq!(desk.create(2, of_class(10)), Err(Refusal::NoSuchClass));
+        assert_eq!(desk.create(2, of_class(9)), Ok(1));
+        assert!(pass(&desk, &mut tablet, 0).is_ok() && is_live(&tablet, 9));
+        for class in 0..=Content::LAST_CLASS {
+            assert!(desk.change(2, of_class(class)).is_ok());
+            assert!(pass(&desk, &mut tablet, 0).is_ok() && is_live(&tablet, class));
+        }
+        assert_eq!(
+            desk.change(2, of_class(u32::MAX)),
+            Err(Refusal::NoSuchClass)
+        );
+
+        let class = columns.row(2) + row::CLASS;
+        assert!(Table::from_words(damaged(&desk, class, 9)).is_ok());
+        let words = damaged(&desk, class, 10);
+        assert_eq!(Table::from_words(words), Err(Refusal::Rule));
+
+        assert!(desk.change(2, of_class(3)).is_ok() && tablet.change(2, of_class(4)).is_ok());
+        let before = tablet.clone();
+        let new = |class| Choice::New(of_class(class));
+        assert_eq!(
+            settle(&desk, &mut tablet, 2, new(10)),
+            Err(Refusal::NoSuchClass)
+        );
+        assert_eq!(tablet, before);
+        let mut other = tablet.clone();
+        assert!(settle(&desk, &mut other, 2, new(5)).is_ok() && is_live(&other, 5));
+        assert!(settle(&desk, &mut tablet, 2, Choice::Theirs).is_ok() && is_live(&tablet, 3));
+    }
+}
+
+#[test]
+fn class_comes_after_the_event_and_before_the_row() {
+    let mut words = narrow(0).into_words();
+    let before = words.clone();
+    assert_eq!(raw::event(&mut words, 9, 4, 1, 10), refused(16));
+    assert_eq!(raw::event(&mut words, 9, 1, 1, 10), refused(21));
+    assert_eq!(raw::event(&mut words, 9, 3, 1, 10), refused(8));
+    assert_eq!(raw::event(&mut words, 2, 3, 1, 10), refused(10));
+    assert_eq!(words, before);
 }
 
 #[test]
@@ -237,7 +291,7 @@ fn two_widths_come_after_the_target() {
     let answer = raw::pass(source.words(), &mut target, 0, &mut answers);
     assert_eq!(answer, refused(13));
     assert_eq!(
-        raw::settle(source.words(), &mut target, 2, 2, 0),
+        raw::settle(source.words(), &mut target, 2, 2, 0, 0),
         refused(13)
     );
     assert_eq!(raw::standing(source.words(), &target, 2), refused(13));
@@ -273,7 +327,7 @@ fn widening() {
 fn device_put_back_to_an_old_table() {
     let (mut desk, mut tablet) = (narrow(0), narrow(1));
     let old = desk.clone();
-    desk.create(2, 1).expect("a row never used");
+    desk.create(2, marked(1)).expect("a row never used");
     assert!(pass(&desk, &mut tablet, 0).is_ok());
     assert_eq!(pass(&old, &mut tablet, 0), Err(Refusal::TargetAhead));
     assert_eq!(

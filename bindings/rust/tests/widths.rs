@@ -2,7 +2,7 @@
 
 mod common;
 
-use common::table;
+use common::{marked, table};
 use kettleflock::{
     ahead, pass, settle, standing, Answer, Choice, Columns, Passed, Standing, Table,
 };
@@ -18,10 +18,10 @@ fn widened(table: &Table) -> Table {
 /// Desk and tablet, in conflict at row 2.
 fn in_conflict(columns: Columns) -> (Table, Table) {
     let (mut desk, mut tablet) = (table(columns, 0), table(columns, 1));
-    desk.create(2, 700).expect("a row never used");
+    desk.create(2, marked(700)).expect("a row never used");
     assert_eq!(passed(&desk, &mut tablet).answer(2), Some(Answer::Copy));
-    desk.change(2, 701).expect("a live row");
-    tablet.change(2, 702).expect("a live row");
+    desk.change(2, marked(701)).expect("a live row");
+    tablet.change(2, marked(702)).expect("a live row");
     (desk, tablet)
 }
 
@@ -94,7 +94,7 @@ fn a_run_goes_on_from_wide_tables_as_from_narrow_ones() {
     assert_eq!(ahead(&wide_desk, &wide_tablet, 2), Ok(who));
     for (source, target) in [(&desk, &mut tablet), (&wide_desk, &mut wide_tablet)] {
         assert_eq!(
-            settle(source, target, 2, Choice::New { mark: 703 }),
+            settle(source, target, 2, Choice::New(marked(703))),
             Ok(Some(2))
         );
     }
@@ -104,19 +104,19 @@ fn a_run_goes_on_from_wide_tables_as_from_narrow_ones() {
 #[test]
 fn sixteen_devices() {
     let mut desk = widened(&table(Columns::Eight, 0));
-    desk.create(2, 700).expect("a row never used");
+    desk.create(2, marked(700)).expect("a row never used");
     let mut tablets: Vec<Table> = (1..16)
         .map(|device| table(Columns::Sixteen, device))
         .collect();
     for tablet in &mut tablets {
         assert_eq!(passed(&desk, tablet).answer(2), Some(Answer::Copy));
-        assert_eq!(tablet.change(2, 700 + tablet.device()), Ok(1));
+        assert_eq!(tablet.change(2, marked(700 + tablet.device())), Ok(1));
         assert_eq!(passed(tablet, &mut desk).answer(2), Some(Answer::Copy));
     }
     assert_eq!(desk.row(2).expect("a row").floor()[1..], [1; 15]);
 
     // The first has heard of none of the later ones, and works on.
-    assert_eq!(tablets[0].change(2, 800), Ok(2));
+    assert_eq!(tablets[0].change(2, marked(800)), Ok(2));
     let who = ahead(&desk, &tablets[0], 2).expect("a conflict");
     assert!(who.source.iter().eq(2..16) && who.target.iter().eq(1..2));
 }

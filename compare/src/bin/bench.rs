@@ -149,7 +149,10 @@ fn pairs(width: Width) -> [(&'static str, Vec<u32>, Vec<u32>); 3] {
     let mut target = fresh(width, 1, &plan);
     let event = |table: &mut [u32], row: usize, act: u32| {
         let row = row as u32;
-        assert_eq!(second::event(table, row, act, 1000 + row).number, 0);
+        assert_eq!(
+            second::event(table, row, act, 1000 + row, row % 10).number,
+            0
+        );
     };
     for &row in &sheets {
         event(&mut source, row, 1);

@@ -12,6 +12,7 @@ use compare::program::{Answer, PRODUCT};
 use second::layout::{Width, MOST_LEVELS, MOST_ROWS};
 use second::trial::look::fresh;
 use second::trial::plans;
+use second::Content;
 
 /// The bytes of stack that are painted before a call.
 const FIELD: usize = 1 << 20;
@@ -120,9 +121,9 @@ impl Case {
         let mut last = 0;
         for row in plans::sheets(plan) {
             last = row as u32;
-            assert_eq!(second::event(&mut source, last, 1, 7).number, 0);
+            assert_eq!(second::event(&mut source, last, 1, 7, 0).number, 0);
         }
-        assert_eq!(second::event(&mut target, last, 1, 8).number, 0);
+        assert_eq!(second::event(&mut target, last, 1, 8, 0).number, 0);
         Case {
             width,
             plan: plan.to_vec(),
@@ -136,6 +137,7 @@ impl Case {
     fn measured(&self) -> Vec<(&'static str, usize)> {
         let (source, last) = (&self.source, self.last);
         let columns = self.width.columns() as u32;
+        let content = Content { mark: 9, class: 9 };
         let mut made = self.target.clone();
         let mut wide = vec![0; Width::Wide.length(MOST_ROWS)];
         let mut answers = [0; MOST_ROWS];
@@ -148,7 +150,7 @@ impl Case {
             }),
             ("kf_widen", &mut || (PRODUCT.widen)(source, &mut wide)),
             ("kf_event", &mut || {
-                (PRODUCT.event)(&mut changed, last, 2, 9)
+                (PRODUCT.event)(&mut changed, last, 2, content)
             }),
             ("kf_pass", &mut || {
                 (PRODUCT.pass)(source, &mut passed, 0, &mut answers)
@@ -157,7 +159,7 @@ impl Case {
                 (PRODUCT.pass)(source, &mut looked_at, last, &mut [0])
             }),
             ("kf_settle", &mut || {
-                (PRODUCT.settle)(source, &mut settled, last, 3, 9)
+                (PRODUCT.settle)(source, &mut settled, last, 3, content)
             }),
             ("kf_beneath", &mut || (PRODUCT.beneath)(source, 0)),
             ("kf_standing", &mut || {

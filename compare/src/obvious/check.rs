@@ -5,6 +5,7 @@ use super::times::{FLOOR, FOLDER, LIVE, NEVER};
 
 const MOST_ROWS: usize = 256;
 const MOST_LEVELS: u32 = 16;
+const LAST_CLASS: u32 = 9;
 
 /// The clock and the rows of sound words, or the refusal's number.
 pub fn read<const C: usize, const W: usize>(table: &[u32]) -> Result<(Clock, &[Words<W>]), u32> {
@@ -86,19 +87,17 @@ impl<const C: usize> Reader<C> {
         let floor = vector(row, FLOOR);
         let known = greatest(above, floor);
         let events_are_right = match row[0] {
-            NEVER => empty(&row[2..7]),
+            NEVER => empty(&row[2..8]),
             LIVE => {
                 is_event::<C, W>(row, 2)
                     && is_event::<C, W>(row, 4)
                     && covers(&known, row, 2)
                     && covers(&known, row, 4)
+                    && row[7] <= LAST_CLASS
             }
-            _ => is_event::<C, W>(row, 2) && empty(&row[4..7]) && covers(&known, row, 2),
+            _ => is_event::<C, W>(row, 2) && empty(&row[4..8]) && covers(&known, row, 2),
         };
-        self.sound &= events_are_right
-            && row[7] == 0
-            && floor[self.clock.device] == 0
-            && empty(&row[FLOOR + C..]);
+        self.sound &= events_are_right && floor[self.clock.device] == 0 && empty(&row[FLOOR + C..]);
     }
 }
 

@@ -170,7 +170,7 @@ impl<const C: usize, const W: usize> Walk<C, W> {
         };
         if taken {
             b[0] = a[0];
-            b[2..7].copy_from_slice(&a[2..7]);
+            b[2..8].copy_from_slice(&a[2..8]);
         }
         self.raise(b, known_a);
         answer

@@ -5,6 +5,7 @@ use crate::line::one_of;
 use crate::step::CHANGE;
 use crate::step::CREATE;
 use paper::Answer;
+use paper::Content;
 use vector::row::Narrow;
 use vector::row::Row;
 use vector::row::Wide;
@@ -105,7 +106,10 @@ pub fn levels() {
 
 // An event at row 1 of a table of two rows.
 fn counted(line: u32, mut table: Small, event: u32, mark: u32) -> Small {
-    said(line, kettleflock::event(&mut table, 1, event, mark));
+    said(
+        line,
+        kettleflock::event(&mut table, 1, event, Content { mark, class: 0 }),
+    );
     table
 }
 

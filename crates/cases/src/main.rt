@@ -1,6 +1,7 @@
-// The limits, the paper's marked sheets, the showings, the settlings, who is ahead, removals that meet and the two widths, run
-// and printed.
+// The limits, the paper's marked sheets, the showings, the settlings, who is ahead, removals that meet, what a live sheet holds
+// and the two widths, run and printed.
 mod ahead;
+mod contents;
 mod limits;
 mod line;
 mod marked;
@@ -39,6 +40,9 @@ fn main() {
     ahead::told();
     removals::held();
     removals::back();
+    contents::travel();
+    contents::refused();
+    contents::tables();
     widths::made();
     widths::widened();
     widths::apart();

@@ -13,6 +13,7 @@ use crate::step::passed;
 use crate::step::settled;
 use kettleflock::passing::pass;
 use kettleflock::settling::settle;
+use paper::Content;
 use vector::row::Narrow;
 
 // A table of two rows.
@@ -32,9 +33,9 @@ fn fresh(device: u32) -> Small {
     table
 }
 
-// An event at the sheet, with a mark.
+// An event at the sheet, with a mark and class 0.
 fn event(case: u8, mut table: Small, event: u32, mark: u32) -> Small {
-    let a = kettleflock::event(&mut table, SHEET, event, mark);
+    let a = kettleflock::event(&mut table, SHEET, event, Content { mark, class: 0 });
     event_line(case, table[0], event, SHEET, a);
     table
 }
@@ -50,13 +51,13 @@ fn pass_root(case: u8, source: Small, mut target: Small) -> Small {
 
 // The sheet settled by own.
 fn settling_own(case: u8, source: Small, mut target: Small) -> Small {
-    let a = settle(&source, &mut target, SHEET, CHOOSE_OWN, 0);
+    let a = settle(&source, &mut target, SHEET, CHOOSE_OWN, Content::none());
     between(case, source[0], target[0], 1, SHEET);
     settled(CHOOSE_OWN, a);
     target
 }
 
-// The sheet's kind to its mark.
+// The sheet's kind to its class.
 fn sheet(table: Small) {
     eight(BLANK, &table, SHEET, KIND);
 }

@@ -6,6 +6,7 @@ use crate::line::words;
 use crate::step::CREATE;
 use kettleflock::passing::pass;
 use paper::Answer;
+use paper::Content;
 use vector::row::Narrow;
 use vector::row::Row;
 use vector::row::Wide;
@@ -46,7 +47,15 @@ fn small() -> Small {
     let plan = [2u32, 0];
     let mut table = [9u32; 3 * Narrow::WIDTH];
     kettleflock::new(8, 0, &plan, &mut table);
-    kettleflock::event(&mut table, 1, CREATE, 701);
+    kettleflock::event(
+        &mut table,
+        1,
+        CREATE,
+        Content {
+            mark: 701,
+            class: 2,
+        },
+    );
     table
 }
 
@@ -54,7 +63,15 @@ fn large() -> Large {
     let plan = [2u32, 0];
     let mut table = [9u32; 3 * Wide::WIDTH];
     kettleflock::new(16, 15, &plan, &mut table);
-    kettleflock::event(&mut table, 1, CREATE, 700);
+    kettleflock::event(
+        &mut table,
+        1,
+        CREATE,
+        Content {
+            mark: 700,
+            class: 1,
+        },
+    );
     table
 }
 

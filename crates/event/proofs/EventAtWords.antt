@@ -8,6 +8,7 @@ use native.Mathlib.Omega.{arith}
 use borrow.Author.Tests.{eqb-false, leb-false, eq-eqb, ne-eqb}
 use lib.ListN.{length, getD}
 use Rattle.paper.specs.declared.Stamp.{Stamp}
+use Rattle.paper.specs.declared.Content.{Content}
 use Rattle.paper.specs.declared.Clock.{Clock}
 use Rattle.paper.specs.Acts.{Event, creates, changes, removes, eventRow}
 use Rattle.paper.specs.Tree.{subtree, sheetHere, size, Sheet}
@@ -21,7 +22,7 @@ use Rattle.mend.proofs.PutInPlace.{SheetAt, FineSheet, Changed, good, sheet-fin
 use Rattle.mend.proofs.SheetInPlace.{cutRow, putRow, sheet-made}
 
 -- a sheet's row with an event written into it
-pub event-words : (w : ℕ) (e : Event) (s : Stamp) (m : ℕ) (x : Sheet) → eventWords e s m (sheetWords w x) ≡ sheetWords w (eventSheet e s m x)
+pub event-words : (w : ℕ) (e : Event) (s : Stamp) (m : Content) (x : Sheet) → eventWords e s m (sheetWords w x) ≡ sheetWords w (eventSheet e s m x)
 unfolding eventWords sheetWords eventSheet eventRow kindNumber
 event-words w creates s m x = refl
 event-words w changes s m x = refl
@@ -35,12 +36,12 @@ pub record EventFits (w : ℕ) (t : List ℕ) (row event : ℕ) : Type 0 where
   pub fits : fitsSheet (eventNamed event) (sheetHere (subtree (tableOf w t .tree) row)) ≡ true
   pub room : tableOf w t .clock .counter ≡ lastCount → ⊥
 
-pub event-facts : (w : ℕ) (t : List ℕ) (row event : ℕ) → eventRefused w t row event ≡ 0 → EventFits w t row event
+pub event-facts : (w : ℕ) (t : List ℕ) (row event : ℕ) (content : Content) → eventRefused w t row event content ≡ 0 → EventFits w t row event
 unfolding eventRefused
-event-facts w t row event e =
+event-facts w t row event content e =
     let a = first-both _ _ e in
     let b = first-both _ _ (a .1) in
-    let c = first-both _ _ (b .1) in
+    let c = first-both _ _ (first-both _ _ (b .1) .1) in
     let d = first-both _ _ (c .1) in
     let f = first-both _ _ (d .1) in
     record {
@@ -87,31 +88,31 @@ sheet-there w t row event ok = go (sheetHere (subtree (tableOf w t .tree) row)) 
     go none z q = absurd (false≢true q)
     go (some x) z q = record { at = record { check = ok .check; there = ok .there }; x = x; is = z }
 
-event-stamp : (e : Event) (s : Stamp) (m : ℕ) (x : Sheet) → eventSheet e s m x .row .stamp ≡ s
+event-stamp : (e : Event) (s : Stamp) (m : Content) (x : Sheet) → eventSheet e s m x .row .stamp ≡ s
 unfolding eventSheet eventRow
 event-stamp creates s m x = refl
 event-stamp changes s m x = refl
 event-stamp removes s m x = refl
 
-event-fine : (w : ℕ) (e : Event) (s : Stamp) (m : ℕ) (x : Sheet) → FineSheet w x → s .device < w → FineSheet w (eventSheet e s m x)
+event-fine : (w : ℕ) (e : Event) (s : Stamp) (m : Content) (x : Sheet) → FineSheet w x → s .device < w → FineSheet w (eventSheet e s m x)
 unfolding eventSheet
 event-fine w e s m x f h = (f .0, rw (event-stamp e s m x) h)
 
 -- AN EVENT IN PLACE: the row's part came back with the event, and the counter is that of the clock that went up
-module _ (w : ℕ) (t : List ℕ) (row event mark : ℕ) (ok : EventFits w t row event) where
+module _ (w : ℕ) (t : List ℕ) (row event : ℕ) (content : Content) (ok : EventFits w t row event) where
   abbrev b : Table
   b = tableOf w t
 
   at : SheetAt w t row
   at = sheet-there w t row event ok
 
-  pub event-changed : (s : Stamp) → s ≡ newStamp (b .clock) → (e : List ℕ) → e ≡ eventWords (eventNamed event) s mark (cutRow w t row) → (c : Clock) → c ≡ ticked (b .clock)
-      → Changed w t (putRow w t row e (c .counter)) row (eventDone b row (eventNamed event) mark)
+  pub event-changed : (s : Stamp) → s ≡ newStamp (b .clock) → (e : List ℕ) → e ≡ eventWords (eventNamed event) s content (cutRow w t row) → (c : Clock) → c ≡ ticked (b .clock)
+      → Changed w t (putRow w t row e (c .counter)) row (eventDone b row (eventNamed event) content)
   unfolding eventDone
   event-changed s same e wrote c up =
-      sheet-made w t row at (eventSheet (eventNamed event) (newStamp (b .clock)) mark) (λ f. f) (b .tree) (at .x) (at .is)
-      (event-fine w (eventNamed event) (newStamp (b .clock)) mark (at .x) (sheet-fine w t row at) (good w t row (at .at) .device)) e
+      sheet-made w t row at (eventSheet (eventNamed event) (newStamp (b .clock)) content) (λ f. f) (b .tree) (at .x) (at .is)
+      (event-fine w (eventNamed event) (newStamp (b .clock)) content (at .x) (sheet-fine w t row at) (good w t row (at .at) .device)) e
       (wrote
-      ∙ ap₂ (λ x y. eventWords (eventNamed event) x mark y) same (sheet-part w t row at)
-      ∙ event-words w (eventNamed event) (newStamp (b .clock)) mark (at .x))
+      ∙ ap₂ (λ x y. eventWords (eventNamed event) x content y) same (sheet-part w t row at)
+      ∙ event-words w (eventNamed event) (newStamp (b .clock)) content (at .x))
       c (ticked (b .clock)) up refl

@@ -11,6 +11,7 @@ use lib.ListN.{getD, take}
 use lib.Seq.{take-at}
 use borrow.Author.Tests.{eqb-true, eqb-false, leb-true, leb-false}
 use Rattle.paper.specs.declared.Clock.{Clock}
+use Rattle.paper.specs.declared.Content.{Content}
 use Rattle.paper.specs.Columns.{Vec, zeros, greatest, column, full, covers}
 use Rattle.paper.specs.Rules.{Cell, ruling}
 use Rattle.paper.specs.Acts.{Event, eventRow, Choice, stamps, settleRow}
@@ -162,7 +163,7 @@ unfolding cellAt sheetHere mapped
 one-before b row x e = rw e
 
 -- AN EVENT
-module _ (w : ℕ) (b : Table) (row : ℕ) (e : Event) (m : ℕ) (g : GoodTable w b) (s : Sheet) (here : row < size (b .tree)) (alone : subtree (b .tree) row ≡ sheet s end) where
+module _ (w : ℕ) (b : Table) (row : ℕ) (e : Event) (m : Content) (g : GoodTable w b) (s : Sheet) (here : row < size (b .tree)) (alone : subtree (b .tree) row ≡ sheet s end) where
   event-table : eventDone b row e m ≡ record { clock = ticked (b .clock); tree = graft (b .tree) row (sheet (eventSheet e (newStamp (b .clock)) m s) end) }
   unfolding eventDone
   event-table = ap (λ t. record { clock = ticked (b .clock); tree = t }) (event-tree w b row e m g s alone)
@@ -176,7 +177,7 @@ module _ (w : ℕ) (b : Table) (row : ℕ) (e : Event) (m : ℕ) (g : GoodTable 
   event-there i ne = ap (λ t. cellAt t i) event-table ∙ one-there b row (suc (b .clock .counter)) s (eventSheet e (newStamp (b .clock)) m s) here alone i ne
 
 -- A SETTLING
-module _ (w : ℕ) (a b : Table) (row : ℕ) (c : Choice) (m : ℕ) (g : Two-good w a b row) (x : Two Sheet) (alone : pairAt a b row ≡ sheet x end) where
+module _ (w : ℕ) (a b : Table) (row : ℕ) (c : Choice) (m : Content) (g : Two-good w a b row) (x : Two Sheet) (alone : pairAt a b row ≡ sheet x end) where
   -- b's counter afterwards
   abbrev pub counted : ℕ
   counted = cond (stamps c) (suc (b .clock .counter)) (b .clock .counter)

@@ -10,20 +10,21 @@ use native.Mathlib.Omega.{arith}
 use lib.ListN.{length}
 use borrow.Author.Tests.{eq-eqb, leb-false}
 use Rattle.paper.specs.declared.Ruling.{Ruling}
+use Rattle.paper.specs.declared.Content.{Content}
 use Rattle.paper.specs.declared.Ruling.the-variants.{KeepOwn, KeepTheirs, Copy, Remove, Conflict}
 use Rattle.paper.specs.Columns.{zeros, greatest, Narrow}
 use Rattle.paper.specs.Rules.{ruling}
-use Rattle.paper.specs.Acts.{Event, fits, Choice, stamps}
+use Rattle.paper.specs.Acts.{Event, fits, Choice, stamps, takesContent, choiceTakes}
 use Rattle.paper.specs.Tree.{Forest, end, sheet, mapped, size, levels, subtree, graft, sheetHere, shaped, Sheet, above, later}
 use Rattle.paper.specs.Walk.{Two, zip, left, right, ruleAt, walk, answers, looked}
 use Rattle.paper.specs.Words.{Table, tableOf, written}
 use Rattle.paper.specs.Refusals.{tens}
-use Rattle.paper.specs.Check.{checkOf}
+use Rattle.paper.specs.Check.{checkOf, contentFits}
 use Rattle.paper.specs.Good.{rooted, GoodSheet, Good, GoodTable}
 use Rattle.paper.specs.Calls.{Changed, Passed, eventNamed, fitsSheet, newStamp, ticked, eventRefused, eventSheet, eventDone, eventOf}
 use Rattle.paper.specs.Calls.{twoRefused, pairAt, passRefused, passDone, passOf, rulingHere, choiceNamed, conflicts, settleRefused, settleSheet, settleDone}
 use Rattle.laws.proofs.Calls
-use Rattle.laws.proofs.Calls.{event-number, pass-number, settle-number, event-done, pass-done, settle-done, Accepted, two-accepted}
+use Rattle.laws.proofs.Calls.{event-number, pass-number, settle-number, event-done, pass-done, settle-done, Accepted, two-accepted, content-taken}
 use Rattle.laws.proofs.Refusals.{first-none, first-both, first-next, when-none, none-so, unless-so}
 use Rattle.laws.proofs.Tables.{check-facts, checked-good}
 use Rattle.laws.proofs.Forests.{mapped-subtree, mapped-here, shape, shape-size, shape-levels, shape-rooted, graft-shape, shaped-shape, zip-left, zip-right, sheet-alone}
@@ -153,13 +154,14 @@ pass-at w either s t row list e =
     ∙ ap (λ v. passOf v s t row list) wt
 
 -- AN EVENT
-pub record Event-accepted (w : ℕ) (t : List ℕ) (row event mark : ℕ) : Type 0 where
+pub record Event-accepted (w : ℕ) (t : List ℕ) (row event : ℕ) (content : Content) : Type 0 where
   pub good : GoodTable w (tableOf w t)
   pub sheet : Sheet
   pub alone : subtree (tableOf w t .tree) row ≡ Forest.sheet sheet end
   pub fit : fits (eventNamed event) (sheet .row .kind) ≡ true
+  pub may : takesContent (eventNamed event) ≡ true → contentFits content ≡ true
   pub here : row < size (tableOf w t .tree)
-  pub done : eventOf w t row event mark ≡ record { number = 0; count = suc (tableOf w t .clock .counter); table = written w (eventDone (tableOf w t) row (eventNamed event) mark) }
+  pub done : eventOf w t row event content ≡ record { number = 0; count = suc (tableOf w t .clock .counter); table = written w (eventDone (tableOf w t) row (eventNamed event) content) }
 
 fits-sheet : (e : Event) (o : Option Sheet) → fitsSheet e o ≡ true → (s : Sheet) × (o ≡ some s) × (fits e (s .row .kind) ≡ true)
 unfolding fitsSheet
@@ -167,13 +169,14 @@ fits-sheet e none q = absurd (false≢true q)
 fits-sheet e (some s) q = (s, refl, q)
 
 -- the number 0 says so
-pub event-accepted : (w : ℕ) (t : List ℕ) (row event mark : ℕ) → eventOf w t row event mark .number ≡ 0 → Event-accepted w t row event mark
+pub event-accepted : (w : ℕ) (t : List ℕ) (row event : ℕ) (content : Content) → eventOf w t row event content .number ≡ 0 → Event-accepted w t row event content
 unfolding eventRefused
-event-accepted w t row event mark e =
-    let r : eventRefused w t row event ≡ 0 = sym (event-number w t row event mark) ∙ e in
+event-accepted w t row event content e =
+    let r : eventRefused w t row event content ≡ 0 = sym (event-number w t row event content) ∙ e in
     let x = first-both (checkOf w t) _ r in
     let y = first-both _ _ (x .1) in
-    let z = first-both _ _ (y .1) in
+    let v = first-both _ _ (y .1) in
+    let z = first-both _ _ (v .1) in
     let u = first-both _ _ (z .1) in
     let f = fits-sheet (eventNamed event) (sheetHere (subtree (tableOf w t .tree) row)) (none-so _ 9 (u .0)) in
     record {
@@ -181,11 +184,12 @@ event-accepted w t row event mark e =
       sheet = f .0;
       alone = sheet-alone (tableOf w t .tree) row (f .0) (f .1);
       fit = f .2;
+      may = content-taken _ content (v .0);
       here = leb-false _ _ (when-none _ 7 (z .0));
-      done = event-done w t row event mark r;
+      done = event-done w t row event content r;
     }
 
-module _ (w : ℕ) (b : Table) (row : ℕ) (e : Event) (m : ℕ) (g : GoodTable w b) (s : Sheet) (alone : subtree (b .tree) row ≡ sheet s end) where
+module _ (w : ℕ) (b : Table) (row : ℕ) (e : Event) (m : Content) (g : GoodTable w b) (s : Sheet) (alone : subtree (b .tree) row ≡ sheet s end) where
   -- the one sheet is changed
   pub event-tree : eventDone b row e m .tree ≡ graft (b .tree) row (sheet (eventSheet e (newStamp (b .clock)) m s) end)
   unfolding eventDone mapped
@@ -197,8 +201,8 @@ module _ (w : ℕ) (b : Table) (row : ℕ) (e : Event) (m : ℕ) (g : GoodTable 
   event-shape = ap shape event-tree ∙ graft-shape (b .tree) row _ (sym (ap shape alone))
 
   -- and leaves a good table
-  pub event-table-good : fits e (s .row .kind) ≡ true → GoodTable w (eventDone b row e m)
-  event-table-good q =
+  pub event-table-good : fits e (s .row .kind) ≡ true → (takesContent e ≡ true → contentFits m ≡ true) → GoodTable w (eventDone b row e m)
+  event-table-good q may =
       changed-good w b (eventDone b row e m) g (unfold eventDone in refl) event-shape (subst (λ t. Good w (eventDone b row e m .clock) t zeros) (sym event-tree) (unfold eventDone in rows))
     where
       here : GoodSheet w (b .clock) (greatest zeros (above (b .tree) row)) s
@@ -207,18 +211,19 @@ module _ (w : ℕ) (b : Table) (row : ℕ) (e : Event) (m : ℕ) (g : GoodTable 
       rows : Good w (ticked (b .clock)) (graft (b .tree) row (sheet (eventSheet e (newStamp (b .clock)) m s) end)) zeros
       rows =
           good-graft w (ticked (b .clock)) (b .tree) row (sheet (eventSheet e (newStamp (b .clock)) m s) end) zeros (tick-good w (b .clock) (g .device) (b .tree) zeros (g .rows))
-          (event-good w (b .clock) (g .device) e m (greatest zeros (above (b .tree) row)) s q here, tt)
+          (event-good w (b .clock) (g .device) e m (greatest zeros (above (b .tree) row)) s q may here, tt)
 
 -- A SETTLING that is accepted
-pub record Settle-accepted (w : ℕ) (a b : Table) (row choice mark : ℕ) (out : Changed) : Type 0 where
+pub record Settle-accepted (w : ℕ) (a b : Table) (row choice : ℕ) (content : Content) (out : Changed) : Type 0 where
   pub two : Two-good w a b row
   pub sheets : Two Sheet
   pub alone : pairAt a b row ≡ sheet sheets end
   pub conflict : ruleAt (a .clock) (b .clock) (above (a .tree) row) (above (b .tree) row) sheets ≡ Conflict
+  pub may : choiceTakes (choiceNamed choice) ≡ true → contentFits content ≡ true
   pub done : out ≡ record {
     number = 0;
     count = cond (stamps (choiceNamed choice)) (suc (b .clock .counter)) 0;
-    table = written w (settleDone a b row (choiceNamed choice) mark);
+    table = written w (settleDone a b row (choiceNamed choice) content);
   }
 
 pub conflicts-true : (o : Option Ruling) → conflicts o ≡ true → o ≡ some Conflict
@@ -234,31 +239,33 @@ map-some f none y e = let z : _≡_ {A = ℕ} 0 1 = cc in absurd (omega arith)
 map-some f (some x) y e = (x, refl, cc)
 
 -- the number 0 says so
-pub settle-accepted : (s t : List ℕ) (row choice mark : ℕ) → settleAny s t row choice mark .number ≡ 0
-    → Settle-accepted (widthOf t) (tableAny s) (tableAny t) row choice mark (settleAny s t row choice mark)
+pub settle-accepted : (s t : List ℕ) (row choice : ℕ) (content : Content) → settleAny s t row choice content .number ≡ 0
+    → Settle-accepted (widthOf t) (tableAny s) (tableAny t) row choice content (settleAny s t row choice content)
 unfolding settleRefused rulingHere
-settle-accepted s t row choice mark e =
+settle-accepted s t row choice content e =
     let w = widthOf t in
-    let h = settle-any s t row choice mark e in
+    let h = settle-any s t row choice content e in
     let a = tableOf w s in
     let b = tableOf w t in
-    let r : settleRefused w s t row choice ≡ 0 = sym (settle-number w s t row choice mark) ∙ sym (ap (λ (o : Changed). o .number) (h .same)) ∙ e in
+    let r : settleRefused w s t row choice content ≡ 0 = sym (settle-number w s t row choice content) ∙ sym (ap (λ (o : Changed). o .number) (h .same)) ∙ e in
     let x = first-both (twoRefused w s t row) _ r in
     let y = first-both _ _ (x .1) in
-    let z = first-both _ _ (y .1) in
+    let v = first-both _ _ (y .1) in
+    let z = first-both _ _ (v .1) in
     let u = first-both _ _ (z .1) in
     let c = conflicts-true (rulingHere a b row) (none-so _ 13 (u .0)) in
     let o = map-some (ruleAt (a .clock) (b .clock) (above (a .tree) row) (above (b .tree) row)) (sheetHere (pairAt a b row)) Conflict (sym (mapped-here _ _ (pairAt a b row)) ∙ c) in
-    subst (λ v. Settle-accepted w (tableOf v s) (tableAny t) row choice mark (settleAny s t row choice mark)) (sym (h .two .one))
+    subst (λ v. Settle-accepted w (tableOf v s) (tableAny t) row choice content (settleAny s t row choice content)) (sym (h .two .one))
     (record {
       two = two-good w s t row (two-accepted w s t row (x .0));
       sheets = o .0;
       alone = sheet-alone (zip (a .tree) (b .tree)) row (o .0) (o .1);
       conflict = o .2;
-      done = h .same ∙ settle-done w s t row choice mark r;
+      may = content-taken _ content (v .0);
+      done = h .same ∙ settle-done w s t row choice content r;
     })
 
-module _ (w : ℕ) (a b : Table) (row : ℕ) (c : Choice) (m : ℕ) (g : Two-good w a b row) (x : Two Sheet) (alone : pairAt a b row ≡ sheet x end) where
+module _ (w : ℕ) (a b : Table) (row : ℕ) (c : Choice) (m : Content) (g : Two-good w a b row) (x : Two Sheet) (alone : pairAt a b row ≡ sheet x end) where
   -- the one sheet, on either side
   pub alone-left : subtree (a .tree) row ≡ sheet (x .a) end
   unfolding mapped
@@ -280,9 +287,10 @@ module _ (w : ℕ) (a b : Table) (row : ℕ) (c : Choice) (m : ℕ) (g : Two-goo
   settle-shape = ap shape settle-tree ∙ graft-shape (b .tree) row _ (sym (ap shape alone-right))
 
   -- and leaves a good table
-  pub settle-table-good : ruleAt (a .clock) (b .clock) (above (a .tree) row) (above (b .tree) row) x ≡ Conflict → GoodTable w (settleDone a b row c m)
+  pub settle-table-good : ruleAt (a .clock) (b .clock) (above (a .tree) row) (above (b .tree) row) x ≡ Conflict → (choiceTakes c ≡ true → contentFits m ≡ true)
+      → GoodTable w (settleDone a b row c m)
   unfolding mapped ruleAt ruling
-  settle-table-good q =
+  settle-table-good q may =
       changed-good w b (settleDone a b row c m) (g .target) (unfold settleDone in (device (stamps c))) settle-shape
       (subst (λ t. Good w (settleDone a b row c m .clock) t zeros) (sym settle-tree) (unfold settleDone in rows))
     where
@@ -311,6 +319,6 @@ module _ (w : ℕ) (a b : Table) (row : ℕ) (c : Choice) (m : ℕ) (g : Two-goo
           good-graft w (cond (stamps c) (ticked (b .clock)) (b .clock)) (b .tree) row (sheet (settleSheet (a .clock) (b .clock) (above (a .tree) row) c m x) end) zeros (tick (stamps c)) (
             subst (λ u. GoodSheet w (cond (stamps c) (ticked (b .clock)) (b .clock)) u (settleSheet (a .clock) (b .clock) (above (a .tree) row) c m x)) (sym (zeros-greatest (above (b .tree) row)))
                 (settle-good w (a .clock) (b .clock) (g .source .device) (g .target .device) (g .apart) (above (a .tree) row) (above (b .tree) row) x (both-good .0) (both-good .1)
-                (above-narrow w a b row g) (above-early w a b row g) early c m kinds),
+                (above-narrow w a b row g) (above-early w a b row g) early c m kinds may),
             tt,
           )

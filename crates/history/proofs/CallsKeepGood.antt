@@ -8,15 +8,16 @@ use lib.Dec.{eqb}
 use borrow.Author.Tests.{eqb-true, eq-eqb, ne-eqb, leb-true, le-leb, lt-ltb}
 use Rattle.paper.specs.declared.Clock.{Clock}
 use Rattle.paper.specs.declared.Stamp.{Stamp}
+use Rattle.paper.specs.declared.Content.{Content}
 use Rattle.paper.specs.declared.Ruling.{Ruling}
 use Rattle.paper.specs.declared.Ruling.the-variants.{KeepOwn, KeepTheirs, Copy, Remove, Conflict}
 use Rattle.paper.specs.Columns.{Vec, greatest, full, covers, Narrow}
 use Rattle.paper.specs.Rules.{Kind, never, live, removed, Row}
-use Rattle.paper.specs.Acts.{Event, creates, changes, removes, isLive, fits, eventRow, Choice, theirs, own, new, stamps, settleRow}
+use Rattle.paper.specs.Acts.{Event, creates, changes, removes, isLive, fits, takesContent, eventRow, Choice, theirs, own, new, stamps, choiceTakes, settleRow}
 use Rattle.paper.specs.Tree.{end, sheet, folder, mapped, Sheet, Tree, later, least, fullLeast}
 use Rattle.paper.specs.Walk
 use Rattle.paper.specs.Walk.{Two, Pair, left, right, raised, ruleAt, over, walk}
-use Rattle.paper.specs.Check.{laid, known, proper, absent}
+use Rattle.paper.specs.Check.{laid, known, proper, absent, contentFits, contentAbsent}
 use Rattle.paper.specs.Good.{GoodFloor, GoodSheet, Good}
 use Rattle.paper.specs.Calls.{newStamp, ticked, eventSheet, settleSheet}
 use Rattle.laws.proofs.Bools.{and-both, both-and}
@@ -169,19 +170,22 @@ module _ (w : ℕ) (c : Clock) (l : c .device < w) where
   new-known u f = rw (eq-eqb (c .device) (c .device) refl) (le-leb (suc (c .counter)) (suc (c .counter)) (omega arith))
 
   -- AN EVENT that fits
-  pub event-good : (e : Event) (m : ℕ) (u : Vec) (s : Sheet) → fits e (s .row .kind) ≡ true → GoodSheet w c u s → GoodSheet w (ticked c) u (eventSheet e (newStamp c) m s)
-  unfolding eventSheet eventRow laid known fits absent isLive
-  event-good creates m u s q g = let h = tick-sheet u s g in record { floor = h .floor; laid = both-and new-proper new-proper; known = both-and (new-known u (s .floor)) (new-known u (s .floor)) }
-  event-good changes m u s q g =
+  pub event-good : (e : Event) (m : Content) (u : Vec) (s : Sheet) → fits e (s .row .kind) ≡ true → (takesContent e ≡ true → contentFits m ≡ true) → GoodSheet w c u s
+      → GoodSheet w (ticked c) u (eventSheet e (newStamp c) m s)
+  unfolding eventSheet eventRow laid known fits absent contentAbsent isLive
+  event-good creates m u s q may g =
+      let h = tick-sheet u s g in let k = new-known u (s .floor) in
+      record { floor = h .floor; laid = both-and new-proper (both-and new-proper (may refl)); known = both-and k k }
+  event-good changes m u s q may g =
       let h = tick-sheet u s g in
       let b = born (s .row .kind) (s .row) (full (ticked c) u (s .floor)) q (h .laid) (h .known) in
-      record { floor = h .floor; laid = both-and new-proper (b .0); known = both-and (new-known u (s .floor)) (b .1) }
+      record { floor = h .floor; laid = both-and new-proper (both-and (b .0) (may refl)); known = both-and (new-known u (s .floor)) (b .1) }
     where
       born : (k : Kind) (r : Row) (v : Vec) → isLive k ≡ true → laid w k r ≡ true → known v k r ≡ true → (proper w (r .birth) ≡ true) × (covers v (r .birth) ≡ true)
       born never r v q x y = absurd (false≢true q)
-      born live r v q x y = (and-both (proper w (r .stamp)) _ x .1, and-both (covers v (r .stamp)) _ y .1)
+      born live r v q x y = (and-both _ _ (and-both (proper w (r .stamp)) _ x .1) .0, and-both (covers v (r .stamp)) _ y .1)
       born removed r v q x y = absurd (false≢true q)
-  event-good removes m u s q g = let h = tick-sheet u s g in record { floor = h .floor; laid = both-and new-proper refl; known = new-known u (s .floor) }
+  event-good removes m u s q may g = let h = tick-sheet u s g in record { floor = h .floor; laid = both-and new-proper refl; known = new-known u (s .floor) }
 
 -- a birth that is laid and known
 abbrev pub Birth : ℕ → Vec → Stamp → Type 0
@@ -191,22 +195,23 @@ Birth w v s = (proper w s ≡ true) × (covers v s ≡ true)
 pub has-birth : (w : ℕ) (v : Vec) (k : Kind) (r : Row) → laid w k r ≡ true → known v k r ≡ true → Born k (Birth w v (r .birth))
 unfolding laid known
 has-birth w v never r x y = tt
-has-birth w v live r x y = (and-both (proper w (r .stamp)) _ x .1, and-both (covers v (r .stamp)) _ y .1)
+has-birth w v live r x y = (and-both _ _ (and-both (proper w (r .stamp)) _ x .1) .0, and-both (covers v (r .stamp)) _ y .1)
 has-birth w v removed r x y = tt
 
 -- A SETTLING of two opposed sheets
 module _ (w : ℕ) (a b : Clock) (la : a .device < w) (lb : b .device < w) (apart : a .device ≡ b .device → ⊥) (ua ub : Vec) (x : Two Sheet)
     (ga : GoodSheet w a ua (x .a)) (gb : GoodSheet w b ub (x .b)) (nu : Narrow w ua) (hu : ua (b .device) ≤ b .counter) (hx : x .a .floor (b .device) ≤ b .counter) where
   -- by theirs, by own, and by a new row with a birth of one of them
-  pub settle-good : (c : Choice) (m : ℕ) → Opposed (x .a .row .kind) (x .b .row .kind) → GoodSheet w (cond (stamps c) (ticked b) b) ub (settleSheet a b ua c m x)
+  pub settle-good : (c : Choice) (m : Content) → Opposed (x .a .row .kind) (x .b .row .kind) → (choiceTakes c ≡ true → contentFits m ≡ true)
+      → GoodSheet w (cond (stamps c) (ticked b) b) ub (settleSheet a b ua c m x)
   unfolding settleSheet settleRow stamps laid known
-  settle-good theirs m o = taken w a b la lb apart ua ub x ga gb nu hu hx
-  settle-good own m o = stays w a b la lb apart ua ub x ga gb nu hu hx
-  settle-good new m o =
+  settle-good theirs m o may = taken w a b la lb apart ua ub x ga gb nu hu hx
+  settle-good own m o may = stays w a b la lb apart ua ub x ga gb nu hu hx
+  settle-good new m o may =
       let f = raised b (x .b .floor) (full a ua (x .a .floor)) in
       let t = tick-sheet w b lb ub (record { row = x .a .row; floor = f }) (taken w a b la lb apart ua ub x ga gb nu hu hx) in
       let s = tick-sheet w b lb ub (record { row = x .b .row; floor = f }) (stays w a b la lb apart ua ub x ga gb nu hu hx) in
       let n = new-born (Birth w (full (ticked b) ub f)) (x .a .row .kind) (x .b .row .kind) (x .a .row) (x .b .row) o
       (has-birth w (full (ticked b) ub f) (x .a .row .kind) (x .a .row) (t .laid) (t .known))
       (has-birth w (full (ticked b) ub f) (x .b .row .kind) (x .b .row) (s .laid) (s .known)) in
-      record { floor = s .floor; laid = both-and (new-proper w b lb) (n .0); known = both-and (new-known w b lb ub f) (n .1) }
+      record { floor = s .floor; laid = both-and (new-proper w b lb) (both-and (n .0) (may refl)); known = both-and (new-known w b lb ub f) (n .1) }

@@ -9,6 +9,7 @@ use native.Mathlib.Omega.{arith}
 use lib.Dec.{leb, ltb}
 use lib.ListN.{length, getD, take}
 use borrow.Author.Tests.{leb-false, ltb-false}
+use Rattle.paper.specs.declared.Content.{Content}
 use Rattle.paper.specs.Columns.{Vec, covers}
 use Rattle.paper.specs.Rules.{Cell, ruling, numberOf}
 use Rattle.paper.specs.Tree.{size, levels, subtree, sheetHere, Sheet, above}
@@ -157,18 +158,19 @@ new-sound columns d plan table e =
     let c = new-accepted columns d plan table (sym (ap (λ (o : Changed). o .number) (x .same)) ∙ e) .check in
     ap (λ (o : Changed). checkAny (o .table)) (x .same) ∙ ap (λ v. checkOf v (newOf columns d plan table .table)) (width-checked columns (x .width) _ c) ∙ c
 
-pub event-sound : (t : List ℕ) (row event mark : ℕ) → eventAny t row event mark .number ≡ 0 → checkAny (eventAny t row event mark .table) ≡ 0
-event-sound t row event mark e =
+pub event-sound : (t : List ℕ) (row event : ℕ) (content : Content) → eventAny t row event content .number ≡ 0 → checkAny (eventAny t row event content .table) ≡ 0
+event-sound t row event content e =
     let w = widthOf t in
-    let acc = event-accepted w t row event mark e in
+    let acc = event-accepted w t row event content e in
     ap (λ (o : Changed). checkAny (o .table)) (acc .done)
-    ∙ any-passes w (width-either t) (eventDone (tableAny t) row (eventNamed event) mark) (event-table-good w (tableAny t) row (eventNamed event) mark (acc .good) (acc .sheet) (acc .alone) (acc .fit))
+    ∙ any-passes w (width-either t) (eventDone (tableAny t) row (eventNamed event) content)
+    (event-table-good w (tableAny t) row (eventNamed event) content (acc .good) (acc .sheet) (acc .alone) (acc .fit) (acc .may))
 
 -- and so of a settling
-pub settle-sound : (s t : List ℕ) (row choice mark : ℕ) → settleAny s t row choice mark .number ≡ 0 → checkAny (settleAny s t row choice mark .table) ≡ 0
-settle-sound s t row choice mark e =
+pub settle-sound : (s t : List ℕ) (row choice : ℕ) (content : Content) → settleAny s t row choice content .number ≡ 0 → checkAny (settleAny s t row choice content .table) ≡ 0
+settle-sound s t row choice content e =
     let w = widthOf t in
-    let acc = settle-accepted s t row choice mark e in
+    let acc = settle-accepted s t row choice content e in
     ap (λ (o : Changed). checkAny (o .table)) (acc .done)
-    ∙ any-passes w (width-either t) (settleDone (tableAny s) (tableAny t) row (choiceNamed choice) mark)
-    (settle-table-good w (tableAny s) (tableAny t) row (choiceNamed choice) mark (acc .two) (acc .sheets) (acc .alone) (acc .conflict))
+    ∙ any-passes w (width-either t) (settleDone (tableAny s) (tableAny t) row (choiceNamed choice) content)
+    (settle-table-good w (tableAny s) (tableAny t) row (choiceNamed choice) content (acc .two) (acc .sheets) (acc .alone) (acc .conflict) (acc .may))

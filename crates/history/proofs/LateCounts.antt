@@ -6,15 +6,17 @@ use mathlib.Core.Path.{_≡_, refl, sym, ap, _∙_, subst}
 use mathlib.Core.Bool.{Bool, true, false}
 use mathlib.Core.List.{List, [], _∷_}
 use native.Mathlib.Omega.{arith}
+use Rattle.paper.specs.declared.Content.{Content}
 use Rattle.paper.specs.Columns.{Vec}
 use Rattle.paper.specs.Tree.{Forest, later}
 use Rattle.paper.specs.Words.{tableOf}
 use Rattle.paper.specs.Refusals.{first, when, tens, unless}
 use Rattle.paper.specs.Check.{checkOf}
-use Rattle.paper.specs.Calls.{Answered, Changed, Passed, Masked, eventRefused, unlike, twoRefused, passRefused, settleRefused, beneathRefused, standingRefused}
-use Rattle.paper.specs.Calls.{passOf, settleOf, standingOf, beneathOf, aheadRefused, aheadOf}
+use Rattle.paper.specs.Calls.{Answered, Changed, Passed, Masked, eventRefused, unlike, twoRefused, passRefused, settleRefused, beneathRefused}
+use Rattle.paper.specs.Calls.{standingRefused, passOf, settleOf, standingOf, beneathOf, aheadRefused, aheadOf, eventNamed, choiceNamed, contentRefused, contentIf}
 use Rattle.paper.specs.Widths.{widthOf, tableAny, checkAny, widenRefused, twoWidths, passAny, settleAny, beneathAny, standingAny, aheadAny}
 use Rattle.laws.proofs.Calls.{event-number, pass-number, settle-number, ahead-number}
+use Rattle.paper.specs.Acts.{takesContent, choiceTakes}
 use Rattle.laws.proofs.Refusals.{when-false}
 use Rattle.laws.proofs.Widths.{any-good, widen-number, two-any}
 use Rattle.run.specs.Run.{State, Without}
@@ -45,6 +47,11 @@ module _ (n : ℕ) (least : 6 ≤ n) (most : n ≤ 7) where
   check-not : (w : ℕ) (t : List ℕ) → checkOf w t ≡ n → ⊥
   unfolding checkOf
   check-not w t = first-not _ _ (when-not _ 1 (λ e. omega arith)) (first-not _ _ (when-not _ 2 (λ e. omega arith)) (first-not _ _ (when-not _ 3 (λ e. omega arith)) end-not))
+
+  content-not : (takes : Bool) (m : Content) → contentIf takes m ≡ n → ⊥
+  unfolding contentRefused
+  content-not true m e = first-not _ _ (when-not _ 21 (λ e. omega arith)) end-not e
+  content-not false m e = omega (arith, least, e)
 
   -- not of a call that is refused by m or else done
   unless-not : {A : Type 0} (number : A → ℕ) (m : ℕ) (refused done : A) → number refused ≡ m → (m ≡ n → ⊥) → (m ≡ 0 → number done ≡ n → ⊥) → number (unless m refused done) ≡ n → ⊥
@@ -86,7 +93,7 @@ module _ (n : ℕ) (least : 6 ≤ n) (most : n ≤ 7) where
 
     pub kept-without : Without n s
     kept-without = record {
-      event = λ d row event mark e. event′ (s .tables d) row event (sym (event-number (widthOf (s .tables d)) (s .tables d) row event mark) ∙ e);
+      event = λ d row event content e. event′ (s .tables d) row event content (sym (event-number (widthOf (s .tables d)) (s .tables d) row event content) ∙ e);
       pass = pass′;
       settle = settle′;
       widen = λ d wider e. widen′ (s .tables d) wider (sym (widen-number (s .tables d) wider) ∙ e);
@@ -95,10 +102,10 @@ module _ (n : ℕ) (least : 6 ≤ n) (most : n ≤ 7) where
       ahead = ahead′;
     }
       where
-        event′ : (t : List ℕ) (row event : ℕ) → eventRefused (widthOf t) t row event ≡ n → ⊥
-        event′ t row event = unfold eventRefused in
-            (first-not _ _ (check-not (widthOf t) t) (first-not _ _ (when-not _ 16 (λ e. omega arith)) (first-not _ _ (when-not _ 8 (λ e. omega arith))
-            (first-not _ _ (when-not _ 10 (λ e. omega arith)) (first-not _ _ (when-not _ 15 (λ e. omega arith)) end-not)))))
+        event′ : (t : List ℕ) (row event : ℕ) (content : Content) → eventRefused (widthOf t) t row event content ≡ n → ⊥
+        event′ t row event content = unfold eventRefused in
+            (first-not _ _ (check-not (widthOf t) t) (first-not _ _ (when-not _ 16 (λ e. omega arith)) (first-not _ _ (content-not (takesContent (eventNamed event)) content)
+            (first-not _ _ (when-not _ 8 (λ e. omega arith)) (first-not _ _ (when-not _ 10 (λ e. omega arith)) (first-not _ _ (when-not _ 15 (λ e. omega arith)) end-not))))))
 
         widen′ : (t wider : List ℕ) → widenRefused t wider ≡ n → ⊥
         widen′ t wider = unfold widenRefused in
@@ -115,13 +122,14 @@ module _ (n : ℕ) (least : 6 ≤ n) (most : n ≤ 7) where
             (λ z e. unfold passRefused in (first-not _ _ (kept-not a b row z) (first-not _ _ (when-not _ 9 (λ e. omega arith)) end-not))
             (sym (pass-number (widthOf (s .tables b)) (s .tables a) (s .tables b) row list) ∙ e)))
 
-        settle′ : (a b row choice mark : ℕ) → settleAny (s .tables a) (s .tables b) row choice mark .number ≡ n → ⊥
-        settle′ a b row choice mark = unfold settleAny in
-            (unless-not (λ (o : Changed). o .number) (twoWidths (s .tables a) (s .tables b)) _ (settleOf (widthOf (s .tables b)) (s .tables a) (s .tables b) row choice mark) refl
+        settle′ : (a b row choice : ℕ) (content : Content) → settleAny (s .tables a) (s .tables b) row choice content .number ≡ n → ⊥
+        settle′ a b row choice content = unfold settleAny in
+            (unless-not (λ (o : Changed). o .number) (twoWidths (s .tables a) (s .tables b)) _ (settleOf (widthOf (s .tables b)) (s .tables a) (s .tables b) row choice content) refl
             (widths-not (s .tables a) (s .tables b))
-            (λ z e. unfold settleRefused in (first-not _ _ (kept-not a b row z) (first-not _ _ (when-not _ 16 (λ e. omega arith)) (first-not _ _ (when-not _ 10 (λ e. omega arith))
-            (first-not _ _ (when-not _ 14 (λ e. omega arith)) (first-not _ _ (when-not _ 15 (λ e. omega arith)) end-not)))))
-            (sym (settle-number (widthOf (s .tables b)) (s .tables a) (s .tables b) row choice mark) ∙ e)))
+            (λ z e. unfold settleRefused in
+            (first-not _ _ (kept-not a b row z) (first-not _ _ (when-not _ 16 (λ e. omega arith)) (first-not _ _ (content-not (choiceTakes (choiceNamed choice)) content)
+            (first-not _ _ (when-not _ 10 (λ e. omega arith)) (first-not _ _ (when-not _ 14 (λ e. omega arith)) (first-not _ _ (when-not _ 15 (λ e. omega arith)) end-not))))))
+            (sym (settle-number (widthOf (s .tables b)) (s .tables a) (s .tables b) row choice content) ∙ e)))
 
         standing′ : (a b row : ℕ) → standingAny (s .tables a) (s .tables b) row .number ≡ n → ⊥
         standing′ a b row = unfold standingAny in

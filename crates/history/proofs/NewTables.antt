@@ -17,7 +17,7 @@ use Rattle.paper.specs.Columns.{Vec, zeros, greatest, columns}
 use Rattle.paper.specs.Tree.{Forest, end, sheet, folder, mapped, size, subtree, sheetHere, Sheet, Tree, newest, stampVec, greatestOf, least, most}
 use Rattle.paper.specs.Order.{kindWord, sizeWord, ordered, Raw, forestOf, wordsOf}
 use Rattle.paper.specs.Words.{wide, kindNumber, treeFrom, Table, tableOf, sheetWords, folderWords, folderRow, rowsOf, headWords, sign}
-use Rattle.paper.specs.Check.{blank, laid, known, absent, headFits, orderFits, rowsFit, checkOf}
+use Rattle.paper.specs.Check.{blank, laid, known, absent, contentAbsent, headFits, orderFits, rowsFit, checkOf}
 use Rattle.paper.specs.Good.{Good}
 use Rattle.paper.specs.Calls.{Changed, planned, planFits, newRefused, newOf, isFolder}
 use Rattle.laws.proofs.Bools.{and-both, both-and}
@@ -60,7 +60,7 @@ module _ {X Y : Type 0} where
 
   -- it is good
   pub bare-good : (w : ℕ) (c : Clock) (f : Forest X Y) (u : Vec) → Good w c (bare f) u
-  unfolding mapped laid known absent
+  unfolding mapped laid known absent contentAbsent
   bare-good w c end u = tt
   bare-good w c (sheet x r) u = (record { floor = record { narrow = λ j h. refl; own = refl }; laid = refl; known = refl }, bare-good w c r u)
   bare-good w c (folder y k r) u = (record { narrow = λ j h. refl; own = refl }, bare-good w c k (greatest u zeros), bare-good w c r u)

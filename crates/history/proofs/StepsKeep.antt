@@ -11,6 +11,7 @@ use lib.Dec.{leb, ltb, eqb}
 use lib.ListN.{length}
 use borrow.Author.Tests.{eqb-true, eq-eqb, ne-eqb, leb-true, leb-false, ltb-true, ltb-false}
 use Rattle.paper.specs.declared.Stamp.{Stamp}
+use Rattle.paper.specs.declared.Content.{Content}
 use Rattle.paper.specs.declared.Ruling.the-variants.{Conflict}
 use Rattle.paper.specs.Columns.{Vec, zeros, greatest, column, full, covers}
 use Rattle.paper.specs.Rules.{Row, Cell, ruling}
@@ -120,7 +121,7 @@ module _ (p : Forest (Unit {0}) (Unit {0})) (s : State) (k : Kept p s) where
         there-same x y e = unfold passing in (put-there vectors (k .flat) b (within row (length list)) _ x y e)
 
   -- AN EVENT
-  module _ (d row e mark : ℕ) (acc : Event-accepted (widthOf (s .tables d)) (s .tables d) row e mark) where
+  module _ (d row e : ℕ) (content : Content) (acc : Event-accepted (widthOf (s .tables d)) (s .tables d) row e content) where
     abbrev w : ℕ
     w = widthOf (s .tables d)
 
@@ -133,16 +134,16 @@ module _ (p : Forest (Unit {0}) (Unit {0})) (s : State) (k : Kept p s) where
     gd : GoodTable w (T d)
     gd = acc .good
 
-    event-cell : (y : ℕ) → eqb y row ≡ true → eventful vectors (k .flat) d row (eventNamed e) mark .cell d y
-        ≡ record { row = eventRow (eventNamed e) (newStamp (T d .clock)) mark (k .flat .cell d y .row); known = column (T d .clock .device) (suc (T d .clock .counter)) (k .flat .cell d y .known) }
+    event-cell : (y : ℕ) → eqb y row ≡ true → eventful vectors (k .flat) d row (eventNamed e) content .cell d y
+        ≡ record { row = eventRow (eventNamed e) (newStamp (T d .clock)) content (k .flat .cell d y .row); known = column (T d .clock .device) (suc (T d .clock .counter)) (k .flat .cell d y .known) }
     unfolding eventful
     event-cell y q =
         put-here vectors (tick vectors (k .flat) d row) d (λ y. eqb y row) _ y q
-        ∙ ap₂ (λ (c : Cell Vec) (n : Stamp). record { row = eventRow (eventNamed e) n mark (c .row); known = c .known }) (tick-here vectors (k .flat) d row y) (next-stamp d dw)
-        ∙ ap (λ (n : Stamp). record { row = eventRow (eventNamed e) (newStamp (T d .clock)) mark (k .flat .cell d y .row); known = column (n .device) (n .count) (k .flat .cell d y .known) })
+        ∙ ap₂ (λ (c : Cell Vec) (n : Stamp). record { row = eventRow (eventNamed e) n content (c .row); known = c .known }) (tick-here vectors (k .flat) d row y) (next-stamp d dw)
+        ∙ ap (λ (n : Stamp). record { row = eventRow (eventNamed e) (newStamp (T d .clock)) content (k .flat .cell d y .row); known = column (n .device) (n .count) (k .flat .cell d y .known) })
         (next-stamp d dw)
 
-    away-cell : (y : ℕ) → eqb y row ≡ false → eventful vectors (k .flat) d row (eventNamed e) mark .cell d y ≡ reset (ticked (T d .clock)) (k .flat .cell d y)
+    away-cell : (y : ℕ) → eqb y row ≡ false → eventful vectors (k .flat) d row (eventNamed e) content .cell d y ≡ reset (ticked (T d .clock)) (k .flat .cell d y)
     unfolding eventful
     away-cell y q =
         put-away vectors (tick vectors (k .flat) d row) d (λ y. eqb y row) _ y q
@@ -153,14 +154,15 @@ module _ (p : Forest (Unit {0}) (Unit {0})) (s : State) (k : Kept p s) where
     before : cell (T d .clock) (above (T d .tree) row) (acc .sheet) ≡ k .flat .cell d row
     before = held p s k d row _ (one-before (T d) row (acc .sheet) (acc .alone))
 
-    event-holds : (y : ℕ) → Holds (cellAt (eventDone (T d) row (eventNamed e) mark) y) (eventful vectors (k .flat) d row (eventNamed e) mark .cell d y)
+    event-holds : (y : ℕ) → Holds (cellAt (eventDone (T d) row (eventNamed e) content) y) (eventful vectors (k .flat) d row (eventNamed e) content .cell d y)
     event-holds y = go (eqb y row) refl
       where
-        at-row : Holds (cellAt (eventDone (T d) row (eventNamed e) mark) row) (eventful vectors (k .flat) d row (eventNamed e) mark .cell d row)
+        at-row : Holds (cellAt (eventDone (T d) row (eventNamed e) content) row) (eventful vectors (k .flat) d row (eventNamed e) content .cell d row)
         at-row =
-            subst (λ o. Holds o (eventful vectors (k .flat) d row (eventNamed e) mark .cell d row)) (sym (event-here w (T d) row (eventNamed e) mark gd (acc .sheet) (acc .here) (acc .alone)))
-            (ap (λ x. record { row = eventRow (eventNamed e) (newStamp (T d .clock)) mark (acc .sheet .row); known = x }) (fun-ext (λ j. twice j (eqb j (T d .clock .device))))
-            ∙ ap (λ (c : Cell Vec). record { row = eventRow (eventNamed e) (newStamp (T d .clock)) mark (c .row); known = column (T d .clock .device) (suc (T d .clock .counter)) (c .known) }) before
+            subst (λ o. Holds o (eventful vectors (k .flat) d row (eventNamed e) content .cell d row)) (sym (event-here w (T d) row (eventNamed e) content gd (acc .sheet) (acc .here) (acc .alone)))
+            (ap (λ x. record { row = eventRow (eventNamed e) (newStamp (T d .clock)) content (acc .sheet .row); known = x }) (fun-ext (λ j. twice j (eqb j (T d .clock .device))))
+            ∙ ap (λ (c : Cell Vec).
+            record { row = eventRow (eventNamed e) (newStamp (T d .clock)) content (c .row); known = column (T d .clock .device) (suc (T d .clock .counter)) (c .known) }) before
             ∙ sym (event-cell row (eq-eqb row row refl)))
           where
             twice : (j : ℕ) (t : Bool) → cond t (suc (T d .clock .counter)) (max (above (T d .tree) row j) (acc .sheet .floor j))
@@ -168,46 +170,47 @@ module _ (p : Forest (Unit {0}) (Unit {0})) (s : State) (k : Kept p s) where
             twice j true = refl
             twice j false = refl
 
-        go : (t : Bool) → eqb y row ≡ t → Holds (cellAt (eventDone (T d) row (eventNamed e) mark) y) (eventful vectors (k .flat) d row (eventNamed e) mark .cell d y)
-        go true q = subst (λ n. Holds (cellAt (eventDone (T d) row (eventNamed e) mark) n) (eventful vectors (k .flat) d row (eventNamed e) mark .cell d n)) (sym (eqb-true y row q)) at-row
+        go : (t : Bool) → eqb y row ≡ t → Holds (cellAt (eventDone (T d) row (eventNamed e) content) y) (eventful vectors (k .flat) d row (eventNamed e) content .cell d y)
+        go true q = subst (λ n. Holds (cellAt (eventDone (T d) row (eventNamed e) content) n) (eventful vectors (k .flat) d row (eventNamed e) content .cell d n)) (sym (eqb-true y row q)) at-row
         go false q =
-            subst (λ o. Holds o (eventful vectors (k .flat) d row (eventNamed e) mark .cell d y)) (sym (event-there w (T d) row (eventNamed e) mark gd (acc .sheet) (acc .here) (acc .alone) y q))
+            subst (λ o. Holds o (eventful vectors (k .flat) d row (eventNamed e) content .cell d y)) (sym (event-there w (T d) row (eventNamed e) content gd (acc .sheet) (acc .here) (acc .alone) y q))
             (subst (Holds (Option·map (reset (ticked (T d .clock))) (cellAt (T d) y))) (sym (away-cell y q))
             (holds-map (reset (ticked (T d .clock))) (reset (ticked (T d .clock))) (cellAt (T d) y) (k .flat .cell d y) (λ x z. ap (reset (ticked (T d .clock))) z) (k .holds d y)))
 
-    event-early : Early counter (eventDone (T d) row (eventNamed e) mark .tree) zeros
+    event-early : Early counter (eventDone (T d) row (eventNamed e) content .tree) zeros
     unfolding eventSheet
     event-early =
-        subst (λ t. Early counter t zeros) (sym (event-tree w (T d) row (eventNamed e) mark gd (acc .sheet) (acc .alone)))
-        (early-graft counter (T d .tree) row (sheet (eventSheet (eventNamed e) (newStamp (T d .clock)) mark (acc .sheet)) end) (k .early d dw)
+        subst (λ t. Early counter t zeros) (sym (event-tree w (T d) row (eventNamed e) content gd (acc .sheet) (acc .alone)))
+        (early-graft counter (T d .tree) row (sheet (eventSheet (eventNamed e) (newStamp (T d .clock)) content (acc .sheet)) end) (k .early d dw)
         ((subst (λ t. Early counter t zeros) (acc .alone) (early-subtree counter (T d .tree) row (k .early d dw))) .0, tt))
 
     -- the event fits what the history has there
     fits-past : fits (eventNamed e) (s .past .cell d row .row .kind) ≡ true
     fits-past = ap (λ (r : Row). fits (eventNamed e) (r .kind)) (sym (ap (λ (c : Cell Vec). c .row) before ∙ k .inv .cells d row .rows)) ∙ acc .fit
 
-    event-count : (x : ℕ) → eventful vectors (k .flat) d row (eventNamed e) mark .count x ≡ cond (eqb x d) (suc (k .flat .count x)) (k .flat .count x)
+    event-count : (x : ℕ) → eventful vectors (k .flat) d row (eventNamed e) content .count x ≡ cond (eqb x d) (suc (k .flat .count x)) (k .flat .count x)
     unfolding eventful put tick
     event-count x = refl
 
-    pub event-kept : Kept p (record { tables = replaced (s .tables) d (written w (eventDone (T d) row (eventNamed e) mark)); past = eventful sets (s .past) d row (eventNamed e) mark })
+    pub event-kept : Kept p (record { tables = replaced (s .tables) d (written w (eventDone (T d) row (eventNamed e) content)); past = eventful sets (s .past) d row (eventNamed e) content })
     event-kept =
-        changed p s k w wide d dw (eventDone (T d) row (eventNamed e) mark) (event-table-good w (T d) row (eventNamed e) mark gd (acc .sheet) (acc .alone) (acc .fit)) (same-device ∙ k .device d dw)
-        (event-shape w (T d) row (eventNamed e) mark gd (acc .sheet) (acc .alone) ∙ k .shapes d dw) (omega (arith, same-count)) event-early
-        (eventful vectors (k .flat) d row (eventNamed e) mark) _ (event-count d ∙ rw (eq-eqb d d refl) (ap suc (k .counts d) ∙ sym same-count)) (λ x q. event-count x ∙ rw q) event-holds there-same
-        (event-inv (k .inv) d row (eventNamed e) mark fits-past)
+        changed p s k w wide d dw (eventDone (T d) row (eventNamed e) content) (event-table-good w (T d) row (eventNamed e) content gd (acc .sheet) (acc .alone) (acc .fit) (acc .may))
+        (same-device ∙ k .device d dw)
+        (event-shape w (T d) row (eventNamed e) content gd (acc .sheet) (acc .alone) ∙ k .shapes d dw) (omega (arith, same-count)) event-early
+        (eventful vectors (k .flat) d row (eventNamed e) content) _ (event-count d ∙ rw (eq-eqb d d refl) (ap suc (k .counts d) ∙ sym same-count)) (λ x q. event-count x ∙ rw q) event-holds there-same
+        (event-inv (k .inv) d row (eventNamed e) content fits-past)
       where
-        same-device : eventDone (T d) row (eventNamed e) mark .clock .device ≡ T d .clock .device
+        same-device : eventDone (T d) row (eventNamed e) content .clock .device ≡ T d .clock .device
         same-device = unfold eventDone in refl
 
-        same-count : eventDone (T d) row (eventNamed e) mark .clock .counter ≡ suc (T d .clock .counter)
+        same-count : eventDone (T d) row (eventNamed e) content .clock .counter ≡ suc (T d .clock .counter)
         same-count = unfold eventDone in refl
 
-        there-same : (x y : ℕ) → eqb x d ≡ false → eventful vectors (k .flat) d row (eventNamed e) mark .cell x y ≡ k .flat .cell x y
+        there-same : (x y : ℕ) → eqb x d ≡ false → eventful vectors (k .flat) d row (eventNamed e) content .cell x y ≡ k .flat .cell x y
         there-same x y q = unfold eventful in (put-there vectors (tick vectors (k .flat) d row) d (λ y. eqb y row) _ x y q ∙ tick-there vectors (k .flat) d row x y q)
 
   -- A SETTLING
-  module _ (w : ℕ) (wide : Width w) (a b row ch mark : ℕ) (out : Changed) (acc : Settle-accepted w (T a) (T b) row ch mark out) where
+  module _ (w : ℕ) (wide : Width w) (a b row ch : ℕ) (content : Content) (out : Changed) (acc : Settle-accepted w (T a) (T b) row ch content out) where
     abbrev c : Choice
     c = choiceNamed ch
 
@@ -226,7 +229,7 @@ module _ (p : Forest (Unit {0}) (Unit {0})) (s : State) (k : Kept p s) where
 
     -- b's counter afterwards
     abbrev n : ℕ
-    n = counted w (T a) (T b) row c mark g₂ (acc .sheets) (acc .alone)
+    n = counted w (T a) (T b) row c content g₂ (acc .sheets) (acc .alone)
 
     abbrev moved : World Vec
     moved = cond (stamps c) (tick vectors (k .flat) b row) (k .flat)
@@ -254,43 +257,43 @@ module _ (p : Forest (Unit {0}) (Unit {0})) (s : State) (k : Kept p s) where
         go false = sym (own-column y)
 
     before-a : cell (T a .clock) (above (T a .tree) row) (acc .sheets .a) ≡ k .flat .cell a row
-    before-a = held p s k a row _ (one-before (T a) row (acc .sheets .a) (alone-left w (T a) (T b) row c mark g₂ (acc .sheets) (acc .alone)))
+    before-a = held p s k a row _ (one-before (T a) row (acc .sheets .a) (alone-left w (T a) (T b) row c content g₂ (acc .sheets) (acc .alone)))
 
     before-b : cell (T b .clock) (above (T b .tree) row) (acc .sheets .b) ≡ k .flat .cell b row
-    before-b = held p s k b row _ (one-before (T b) row (acc .sheets .b) (alone-right w (T a) (T b) row c mark g₂ (acc .sheets) (acc .alone)))
+    before-b = held p s k b row _ (one-before (T b) row (acc .sheets .b) (alone-right w (T a) (T b) row c content g₂ (acc .sheets) (acc .alone)))
 
-    settle-holds : (y : ℕ) → Holds (cellAt (settleDone (T a) (T b) row c mark) y) (settling vectors (k .flat) a b row c mark .cell b y)
+    settle-holds : (y : ℕ) → Holds (cellAt (settleDone (T a) (T b) row c content) y) (settling vectors (k .flat) a b row c content .cell b y)
     unfolding settling
     settle-holds y = go (eqb y row) refl
       where
-        at-row : Holds (cellAt (settleDone (T a) (T b) row c mark) row) (settling vectors (k .flat) a b row c mark .cell b row)
+        at-row : Holds (cellAt (settleDone (T a) (T b) row c content) row) (settling vectors (k .flat) a b row c content .cell b row)
         at-row =
-            subst (λ o. Holds o (settling vectors (k .flat) a b row c mark .cell b row)) (sym (settle-here w (T a) (T b) row c mark g₂ (acc .sheets) (acc .alone)))
+            subst (λ o. Holds o (settling vectors (k .flat) a b row c content .cell b row)) (sym (settle-here w (T a) (T b) row c content g₂ (acc .sheets) (acc .alone)))
             (ap₂ (λ (x : Cell Vec) (z : Cell Vec). record {
-              row = settleRow c (newStamp (T b .clock)) mark (x .row) (z .row);
+              row = settleRow c (newStamp (T b .clock)) content (x .row) (z .row);
               known = greatest (x .known) (column (T b .clock .device) n (z .known));
             }) before-a before-b
             ∙ ap (λ (m : Stamp). record {
-              row = settleRow c m mark (k .flat .cell a row .row) (k .flat .cell b row .row);
+              row = settleRow c m content (k .flat .cell a row .row) (k .flat .cell b row .row);
               known = greatest (k .flat .cell a row .known) (column (T b .clock .device) n (k .flat .cell b row .known));
             }) (sym (next-stamp b bw₂))
             ∙ sym (put-here vectors moved b (λ y. eqb y row) _ row (eq-eqb row row refl)
-            ∙ ap₂ (λ (x : Cell Vec) (z : Cell Vec). record { row = settleRow c (next vectors (k .flat) b) mark (x .row) (z .row); known = greatest (x .known) (z .known) }) (moved-a row)
+            ∙ ap₂ (λ (x : Cell Vec) (z : Cell Vec). record { row = settleRow c (next vectors (k .flat) b) content (x .row) (z .row); known = greatest (x .known) (z .known) }) (moved-a row)
             (moved-b row)))
 
-        go : (t : Bool) → eqb y row ≡ t → Holds (cellAt (settleDone (T a) (T b) row c mark) y) (settling vectors (k .flat) a b row c mark .cell b y)
-        go true q = subst (λ n. Holds (cellAt (settleDone (T a) (T b) row c mark) n) (settling vectors (k .flat) a b row c mark .cell b n)) (sym (eqb-true y row q)) at-row
+        go : (t : Bool) → eqb y row ≡ t → Holds (cellAt (settleDone (T a) (T b) row c content) y) (settling vectors (k .flat) a b row c content .cell b y)
+        go true q = subst (λ n. Holds (cellAt (settleDone (T a) (T b) row c content) n) (settling vectors (k .flat) a b row c content .cell b n)) (sym (eqb-true y row q)) at-row
         go false q =
-            subst (λ o. Holds o (settling vectors (k .flat) a b row c mark .cell b y)) (sym (settle-there w (T a) (T b) row c mark g₂ (acc .sheets) (acc .alone) y q))
+            subst (λ o. Holds o (settling vectors (k .flat) a b row c content .cell b y)) (sym (settle-there w (T a) (T b) row c content g₂ (acc .sheets) (acc .alone) y q))
             (subst (Holds (Option·map (reset (record { device = T b .clock .device; counter = n })) (cellAt (T b) y))) (sym (put-away vectors moved b (λ y. eqb y row) _ y q ∙ moved-b y))
             (holds-map (reset (record { device = T b .clock .device; counter = n })) (reset (record { device = T b .clock .device; counter = n })) (cellAt (T b) y) (k .flat .cell b y)
             (λ x z. ap (reset (record { device = T b .clock .device; counter = n })) z) (k .holds b y)))
 
-    settle-early : Early counter (settleDone (T a) (T b) row c mark .tree) zeros
+    settle-early : Early counter (settleDone (T a) (T b) row c content .tree) zeros
     unfolding settleSheet
     settle-early =
-        subst (λ t. Early counter t zeros) (sym (settle-tree w (T a) (T b) row c mark g₂ (acc .sheets) (acc .alone)))
-        (early-graft counter (T b .tree) row (sheet (settleSheet (T a .clock) (T b .clock) (above (T a .tree) row) c mark (acc .sheets)) end) (k .early b bw₂) (
+        subst (λ t. Early counter t zeros) (sym (settle-tree w (T a) (T b) row c content g₂ (acc .sheets) (acc .alone)))
+        (early-graft counter (T b .tree) row (sheet (settleSheet (T a .clock) (T b .clock) (above (T a .tree) row) c content (acc .sheets)) end) (k .early b bw₂) (
           raised-made counter (T a .clock) (T b .clock) clock-a (acc .sheets .b .floor) (full (T a .clock) (above (T a .tree) row) (acc .sheets .a .floor)) (floor-b .0)
               (full-made counter (T a .clock) (T b .clock) clock-a (above (T a .tree) row) (acc .sheets .a .floor) (early-above counter (T a .tree) row (k .early a aw₂)) (floor-a .0)),
           tt,
@@ -300,53 +303,54 @@ module _ (p : Forest (Unit {0}) (Unit {0})) (s : State) (k : Kept p s) where
         clock-a = omega (arith, ap counter (k .device a aw₂))
 
         floor-a : Early counter (sheet (acc .sheets .a) end) zeros
-        floor-a = subst (λ t. Early counter t zeros) (alone-left w (T a) (T b) row c mark g₂ (acc .sheets) (acc .alone)) (early-subtree counter (T a .tree) row (k .early a aw₂))
+        floor-a = subst (λ t. Early counter t zeros) (alone-left w (T a) (T b) row c content g₂ (acc .sheets) (acc .alone)) (early-subtree counter (T a .tree) row (k .early a aw₂))
 
         floor-b : Early counter (sheet (acc .sheets .b) end) zeros
-        floor-b = subst (λ t. Early counter t zeros) (alone-right w (T a) (T b) row c mark g₂ (acc .sheets) (acc .alone)) (early-subtree counter (T b .tree) row (k .early b bw₂))
+        floor-b = subst (λ t. Early counter t zeros) (alone-right w (T a) (T b) row c content g₂ (acc .sheets) (acc .alone)) (early-subtree counter (T b .tree) row (k .early b bw₂))
 
     -- the history says conflict too
     conflict-past : ruling (sets .knows) (s .past .cell a row) (s .past .cell b row) ≡ Conflict
     unfolding ruleAt
     conflict-past = sym (rulings (k .inv .cells a row) (k .inv .cells b row)) ∙ ap₂ (ruling covers) (sym before-a) (sym before-b) ∙ acc .conflict
 
-    settle-count : (x : ℕ) → settling vectors (k .flat) a b row c mark .count x ≡ moved .count x
+    settle-count : (x : ℕ) → settling vectors (k .flat) a b row c content .count x ≡ moved .count x
     unfolding settling put
     settle-count x = refl
 
-    pub settle-kept : Kept p (record { tables = replaced (s .tables) b (written w (settleDone (T a) (T b) row c mark)); past = settling sets (s .past) a b row c mark })
+    pub settle-kept : Kept p (record { tables = replaced (s .tables) b (written w (settleDone (T a) (T b) row c content)); past = settling sets (s .past) a b row c content })
     settle-kept =
-        changed p s k w wide b bw₂ (settleDone (T a) (T b) row c mark) (settle-table-good w (T a) (T b) row c mark g₂ (acc .sheets) (acc .alone) (acc .conflict)) (same-device ∙ k .device b bw₂)
-        (settle-shape w (T a) (T b) row c mark g₂ (acc .sheets) (acc .alone) ∙ k .shapes b bw₂) grows settle-early
-        (settling vectors (k .flat) a b row c mark) _ (settle-count b ∙ count-b) (λ x q. settle-count x ∙ count-x x q (stamps c)) settle-holds there-same
-        (settle-inv (k .inv) a b row c mark conflict-past)
+        changed p s k w wide b bw₂ (settleDone (T a) (T b) row c content) (settle-table-good w (T a) (T b) row c content g₂ (acc .sheets) (acc .alone) (acc .conflict) (acc .may))
+        (same-device ∙ k .device b bw₂)
+        (settle-shape w (T a) (T b) row c content g₂ (acc .sheets) (acc .alone) ∙ k .shapes b bw₂) grows settle-early
+        (settling vectors (k .flat) a b row c content) _ (settle-count b ∙ count-b) (λ x q. settle-count x ∙ count-x x q (stamps c)) settle-holds there-same
+        (settle-inv (k .inv) a b row c content conflict-past)
       where
         same-clock : (t : Bool) → cond t (ticked (T b .clock)) (T b .clock) .device ≡ T b .clock .device
         same-clock true = refl
         same-clock false = refl
 
-        same-device : settleDone (T a) (T b) row c mark .clock .device ≡ T b .clock .device
+        same-device : settleDone (T a) (T b) row c content .clock .device ≡ T b .clock .device
         same-device = unfold settleDone in (same-clock (stamps c))
 
         same-counter : (t : Bool) → cond t (ticked (T b .clock)) (T b .clock) .counter ≡ cond t (suc (T b .clock .counter)) (T b .clock .counter)
         same-counter true = refl
         same-counter false = refl
 
-        same-count : settleDone (T a) (T b) row c mark .clock .counter ≡ n
+        same-count : settleDone (T a) (T b) row c content .clock .counter ≡ n
         same-count = unfold settleDone in (same-counter (stamps c))
 
         more : (t : Bool) → T b .clock .counter ≤ cond t (suc (T b .clock .counter)) (T b .clock .counter)
         more true = omega arith
         more false = omega arith
 
-        grows : T b .clock .counter ≤ settleDone (T a) (T b) row c mark .clock .counter
+        grows : T b .clock .counter ≤ settleDone (T a) (T b) row c content .clock .counter
         grows = omega (arith, same-count, more (stamps c))
 
         count-moved : (t : Bool) → cond t (tick vectors (k .flat) b row) (k .flat) .count b ≡ cond t (suc (T b .clock .counter)) (T b .clock .counter)
         count-moved true = unfold tick in (rw (eq-eqb b b refl) (ap suc (k .counts b)))
         count-moved false = k .counts b
 
-        count-b : moved .count b ≡ settleDone (T a) (T b) row c mark .clock .counter
+        count-b : moved .count b ≡ settleDone (T a) (T b) row c content .clock .counter
         count-b = count-moved (stamps c) ∙ sym same-count
 
         count-x : (x : ℕ) → eqb x b ≡ false → (t : Bool) → cond t (tick vectors (k .flat) b row) (k .flat) .count x ≡ k .flat .count x
@@ -357,7 +361,7 @@ module _ (p : Forest (Unit {0}) (Unit {0})) (s : State) (k : Kept p s) where
         moved-x x y q true = tick-there vectors (k .flat) b row x y q
         moved-x x y q false = refl
 
-        there-same : (x y : ℕ) → eqb x b ≡ false → settling vectors (k .flat) a b row c mark .cell x y ≡ k .flat .cell x y
+        there-same : (x y : ℕ) → eqb x b ≡ false → settling vectors (k .flat) a b row c content .cell x y ≡ k .flat .cell x y
         there-same x y q = unfold settling in (put-there vectors moved b (λ y. eqb y row) _ x y q ∙ moved-x x y q (stamps c))
 
   -- A WIDENING: the table is the same

@@ -13,14 +13,15 @@ use lib.Dec.{leb, eqb}
 use lib.ListN.{length, getD, take}
 use Rattle.paper.specs.declared.Ruling.the-variants.{Conflict}
 use Rattle.paper.specs.declared.Stamp.{Stamp}
+use Rattle.paper.specs.declared.Content.{Content}
 use Rattle.paper.specs.Columns.{Vec, covers}
 use Rattle.paper.specs.Rules.{Cell, ruling, numberOf}
-use Rattle.paper.specs.Acts.{fits, stamps}
+use Rattle.paper.specs.Acts.{fits, stamps, takesContent, choiceTakes}
 use Rattle.paper.specs.Tree.{size, levels, subtree, sheetHere}
 use Rattle.paper.specs.Words.{wide, Table, tableOf}
 use Rattle.paper.specs.Refusals.{first, when}
 use Rattle.paper.specs.Check.{checkOf}
-use Rattle.paper.specs.Calls.{Passed, isFolder, oneToThree, eventNamed, lastCount, twoRefused, passOf, passDone, choiceNamed, conflicts}
+use Rattle.paper.specs.Calls.{Passed, isFolder, oneToThree, eventNamed, lastCount, twoRefused, passOf, passDone, choiceNamed, conflicts, contentIf}
 use Rattle.paper.specs.Widths.{Width, widthOf, tableAny, checkAny, newAny, widenOf, eventAny, twoWidths, passAny, settleAny, aheadAny}
 use Rattle.laws.proofs.Tables.{check-facts, checked-written}
 use Rattle.laws.proofs.Widths.{width-either, width-written, widened, widen-same, pass-any}
@@ -180,9 +181,9 @@ whole-look s t row list e =
 pub record Sound : Type 0 where
   pub new : (columns d : ℕ) (plan table : List ℕ) → newAny columns d plan table .number ≡ 0 → checkAny (newAny columns d plan table .table) ≡ 0
   pub widen : (t wider : List ℕ) → widenOf t wider .number ≡ 0 → checkAny (widenOf t wider .table) ≡ 0
-  pub event : (t : List ℕ) (row event mark : ℕ) → eventAny t row event mark .number ≡ 0 → checkAny (eventAny t row event mark .table) ≡ 0
+  pub event : (t : List ℕ) (row event : ℕ) (content : Content) → eventAny t row event content .number ≡ 0 → checkAny (eventAny t row event content .table) ≡ 0
   pub pass : (s t : List ℕ) (row : ℕ) (list : List ℕ) → passAny s t row list .number ≡ 0 → checkAny (passAny s t row list .target) ≡ 0
-  pub settle : (s t : List ℕ) (row choice mark : ℕ) → settleAny s t row choice mark .number ≡ 0 → checkAny (settleAny s t row choice mark .table) ≡ 0
+  pub settle : (s t : List ℕ) (row choice : ℕ) (content : Content) → settleAny s t row choice content .number ≡ 0 → checkAny (settleAny s t row choice content .table) ≡ 0
 
 pub sound : Sound
 sound = record {
@@ -222,18 +223,22 @@ looked s t row list e =
     let acc = pass-accepted s t row list e in
     record { rows = pass-looked (widthOf t) (tableAny s) (tableAny t) row list _ acc; few = pass-few (widthOf t) (tableAny s) (tableAny t) row list _ acc }
 
--- 7. TOLD BY THE HISTORY: at a sheet, an event that is 1, 2 or 3 is refused by 10 exactly where it does not fit the kind that
--- the history has there, and else only by 15; a settling between two devices' tables of one width, by a choice 1, 2 or 3, is
--- refused by 14 exactly where the history says no conflict, and else only by 15. The history's sets are finite: an event is
+-- 7. TOLD BY THE HISTORY: at a sheet, an event that is 1, 2 or 3 and whose content is not refused, or not taken, is refused by 10
+-- exactly where it does not fit the kind that the history has there, and else only by 15; a settling between two devices' tables of
+-- one width, by a choice 1, 2 or 3, likewise by 14 exactly where the history says no conflict, and else only by 15. The history's sets are finite: an event is
 -- in one of them only if its device, one of the sixteen, has made it.
 pub record Told (plan : List ℕ) (s : State) : Type 0 where
-  pub event : (d row event mark : ℕ) → d < devices → oneToThree event ≡ true → getD plan row 1 ≡ 0
-      → eventAny (s .tables d) row event mark .number
-      ≡ first (when (not (fits (eventNamed event) (s .past .cell d row .row .kind))) 10 ∷ when (eqb (s .past .count d) lastCount) 15 ∷ [])
+  pub event : (d row event : ℕ) (content : Content) → d < devices → oneToThree event ≡ true → getD plan row 1 ≡ 0
+      → eventAny (s .tables d) row event content .number
+      ≡ first (contentIf (takesContent (eventNamed event)) content
+      ∷ when (not (fits (eventNamed event) (s .past .cell d row .row .kind))) 10
+      ∷ when (eqb (s .past .count d) lastCount) 15
+      ∷ [])
   pub settle : (a b row : ℕ) → a < devices → b < devices → (a ≡ b → ⊥) → widthOf (s .tables a) ≡ widthOf (s .tables b) → getD plan row 1 ≡ 0
-      → (choice mark : ℕ) → oneToThree choice ≡ true
-      → settleAny (s .tables a) (s .tables b) row choice mark .number
-      ≡ first (when (not (conflicts (some (ruling (sets .knows) (s .past .cell a row) (s .past .cell b row))))) 14
+      → (choice : ℕ) (content : Content) → oneToThree choice ≡ true
+      → settleAny (s .tables a) (s .tables b) row choice content .number
+      ≡ first (contentIf (choiceTakes (choiceNamed choice)) content
+      ∷ when (not (conflicts (some (ruling (sets .knows) (s .past .cell a row) (s .past .cell b row))))) 14
       ∷ when (stamps (choiceNamed choice) && eqb (s .past .count b) lastCount) 15
       ∷ [])
   pub made : (d y : ℕ) (e : Stamp) → s .past .cell d y .known e ≡ true → Was-made s e

@@ -10,19 +10,20 @@ use lib.Dec.{leb, ltb, eqb}
 use lib.ListN.{length, getD, List·getD-eq-default}
 use borrow.Author.Tests.{eq-eqb, leb-true, leb-false, lt-leb, ltb-true, ltb-false}
 use Rattle.paper.specs.declared.Stamp.{Stamp}
+use Rattle.paper.specs.declared.Content.{Content}
 use Rattle.paper.specs.Devices.{devices}
 use Rattle.paper.specs.Columns.{Vec, covers}
 use Rattle.paper.specs.Rules.{Cell, ruling}
-use Rattle.paper.specs.Acts.{fits, stamps}
+use Rattle.paper.specs.Acts.{fits, stamps, takesContent, choiceTakes}
 use Rattle.paper.specs.Tree.{size, subtree, sheetHere, above, Sheet}
 use Rattle.paper.specs.Walk.{Two, cell, ruleAt}
 use Rattle.paper.specs.Words.{Table, tableOf}
 use Rattle.paper.specs.Refusals.{first, when}
-use Rattle.paper.specs.Calls.{Changed, oneToThree, eventNamed, fitsSheet, lastCount, eventRefused, twoRefused, pairAt, isFolder, rulingHere, choiceNamed, conflicts, settleRefused, settleOf}
+use Rattle.paper.specs.Calls.{Changed, oneToThree, eventNamed, fitsSheet, lastCount, eventRefused, twoRefused, pairAt, isFolder, rulingHere, choiceNamed, conflicts, settleRefused, settleOf, contentIf}
 use Rattle.paper.specs.Widths.{widthOf, tableAny, eventAny, twoWidths, settleAny}
 use Rattle.laws.proofs.Calls.{event-number, settle-number, two-accepted}
 use Rattle.laws.proofs.Forests.{shape, mapped-here}
-use Rattle.laws.proofs.Refusals.{first-next, when-false, unless-so, unless-none}
+use Rattle.laws.proofs.Refusals.{first-next, when-false, unless-so, unless-none, first-skip}
 use Rattle.run.specs.Knowledge.{sets}
 use Rattle.run.specs.Run.{State, Makes, Was-made}
 use Rattle.history.specs.Look.{cellAt}
@@ -77,16 +78,17 @@ module _ (columns : ℕ → ℕ) (plan : List ℕ) (lent : ℕ → List ℕ) (ma
   counter-past : (d : ℕ) → tableAny (s .tables d) .clock .counter ≡ s .past .count d
   counter-past d = sym (k .inv .counts d ∙ k .counts d)
 
-  -- an event at a sheet: 10 where the history's kind does not fit, 15 after the last count
-  pub event-told : (d row event mark : ℕ) → d < devices → oneToThree event ≡ true → getD plan row 1 ≡ 0
-      → eventAny (s .tables d) row event mark .number ≡ first (when (not (fits (eventNamed event) (s .past .cell d row .row .kind))) 10 ∷ when (eqb (s .past .count d) lastCount) 15 ∷ [])
+  -- an event at a sheet: what refuses its content, 10 where the history's kind does not fit, 15 after the last count
+  pub event-told : (d row event : ℕ) (content : Content) → d < devices → oneToThree event ≡ true → getD plan row 1 ≡ 0
+      → eventAny (s .tables d) row event content .number
+      ≡ first (contentIf (takesContent (eventNamed event)) content ∷ when (not (fits (eventNamed event) (s .past .cell d row .row .kind))) 10 ∷ when (eqb (s .past .count d) lastCount) 15 ∷ [])
   unfolding eventRefused fitsSheet
-  event-told d row event mark l n z =
+  event-told d row event content l n z =
       let x = stands d row l z in
-      event-number (widthOf (s .tables d)) (s .tables d) row event mark
+      event-number (widthOf (s .tables d)) (s .tables d) row event content
       ∙ first-next _ _ (k .sound d l) ∙ first-next _ _ (unless-so _ 16 n)
-      ∙ first-next _ _ (when-false _ 8 (lt-leb (size (tableAny (s .tables d) .tree)) row (omega (arith, sheet-few plan row z, kept-size columns plan lent makes s k d l))))
-      ∙ ap₂ (λ b c. first (when (not b) 10 ∷ when (eqb c lastCount) 15 ∷ []))
+      ∙ first-skip _ _ _ (when-false _ 8 (lt-leb (size (tableAny (s .tables d) .tree)) row (omega (arith, sheet-few plan row z, kept-size columns plan lent makes s k d l))))
+      ∙ ap₂ (λ b c. first (contentIf (takesContent (eventNamed event)) content ∷ when (not b) 10 ∷ when (eqb c lastCount) 15 ∷ []))
       (ap (fitsSheet (eventNamed event)) (x .here) ∙ ap (λ (c : Cell Vec). fits (eventNamed event) (c .row .kind)) (x .held) ∙ ap (λ r. fits (eventNamed event) (r .kind)) (k .inv .cells d row .rows))
       (counter-past d)
 
@@ -111,18 +113,22 @@ module _ (columns : ℕ → ℕ) (plan : List ℕ) (lent : ℕ → List ℕ) (ma
         ∙ ap₂ (λ c d. some (ruling covers c d)) (x .held) (y .held)
         ∙ ap some (rulings (k .inv .cells a row) (k .inv .cells b row))
 
-    -- a settling there: 14 where the history says no conflict, 15 after the last count
-    pub settle-told : (choice mark : ℕ) → oneToThree choice ≡ true
-        → settleAny (s .tables a) (s .tables b) row choice mark .number
-        ≡ first (when (not (conflicts (some (ruling (sets .knows) (s .past .cell a row) (s .past .cell b row))))) 14 ∷ when (stamps (choiceNamed choice) && eqb (s .past .count b) lastCount) 15 ∷ [])
+    -- a settling there: what refuses its content, 14 where the history says no conflict, 15 after the last count
+    pub settle-told : (choice : ℕ) (content : Content) → oneToThree choice ≡ true
+        → settleAny (s .tables a) (s .tables b) row choice content .number
+        ≡ first (contentIf (choiceTakes (choiceNamed choice)) content
+        ∷ when (not (conflicts (some (ruling (sets .knows) (s .past .cell a row) (s .past .cell b row))))) 14
+        ∷ when (stamps (choiceNamed choice) && eqb (s .past .count b) lastCount) 15
+        ∷ [])
     unfolding settleAny settleRefused
-    settle-told choice mark n =
+    settle-told choice content n =
         let w = widthOf (s .tables b) in
-        ap (λ (o : Changed). o .number) (unless-none (twoWidths (s .tables a) (s .tables b)) _ (settleOf w (s .tables a) (s .tables b) row choice mark)
+        ap (λ (o : Changed). o .number) (unless-none (twoWidths (s .tables a) (s .tables b)) _ (settleOf w (s .tables a) (s .tables b) row choice content)
         (kept-widths columns plan lent makes s k a b row la lb ne ∙ unless-so _ 19 (eq-eqb _ _ one)))
-        ∙ settle-number w (s .tables a) (s .tables b) row choice mark
-        ∙ first-next _ _ two-none ∙ first-next _ _ (unless-so _ 16 n) ∙ first-next _ _ (when-false _ 10 (ap isFolder ruling-told))
-        ∙ ap₂ (λ o c. first (when (not (conflicts o)) 14 ∷ when (stamps (choiceNamed choice) && eqb c lastCount) 15 ∷ [])) ruling-told (counter-past b)
+        ∙ settle-number w (s .tables a) (s .tables b) row choice content
+        ∙ first-next _ _ two-none ∙ first-next _ _ (unless-so _ 16 n) ∙ first-skip _ _ _ (when-false _ 10 (ap isFolder ruling-told))
+        ∙ ap₂ (λ o c. first (contentIf (choiceTakes (choiceNamed choice)) content ∷ when (not (conflicts o)) 14 ∷ when (stamps (choiceNamed choice) && eqb c lastCount) 15 ∷ [])) ruling-told
+        (counter-past b)
 
   -- a device that is not there has made no event
   none-made : (d : ℕ) → devices ≤ d → s .past .count d ≡ 0

@@ -8,6 +8,7 @@ use lib.Dec.{eqb}
 use borrow.Author.Tests.{eqb-true, eq-eqb}
 use Rattle.paper.specs.declared.Ruling.the-variants.{KeepOwn, KeepTheirs, Conflict}
 use Rattle.paper.specs.declared.Stamp.{Stamp}
+use Rattle.paper.specs.declared.Content.{Content}
 use Rattle.paper.specs.Columns.{Vec}
 use Rattle.paper.specs.Rules.{Kind, never, live, removed, Row, Heard, news, rule, Cell, ruling}
 use Rattle.paper.specs.Acts.{Event, creates, changes, removes, isLive, fits, eventRow, Choice, theirs, own, new, stamps, birthOf, settleRow}
@@ -77,13 +78,13 @@ tick-new : (h : World Set) (d s y : ℕ) → eqb y s ≡ true → tick sets h d 
 unfolding tick
 tick-new h d s y e = rw (eq-eqb d d refl, e) (or-first _ (h .cell d y .known (next sets h d)) (same-refl (next sets h d)))
 
-event-stamp : (e : Event) (n : Stamp) (m : ℕ) (r : Row) (k : Set) → k n ≡ true → Stamped (eventRow e n m r .kind) (k (eventRow e n m r .stamp) ≡ true)
+event-stamp : (e : Event) (n : Stamp) (m : Content) (r : Row) (k : Set) → k n ≡ true → Stamped (eventRow e n m r .kind) (k (eventRow e n m r .stamp) ≡ true)
 unfolding eventRow
 event-stamp creates n m r k p = p
 event-stamp changes n m r k p = p
 event-stamp removes n m r k p = p
 
-event-birth : (e : Event) (n : Stamp) (m : ℕ) (r : Row) (k : Set) → k n ≡ true → fits e (r .kind) ≡ true → Born (r .kind) (k (r .birth) ≡ true)
+event-birth : (e : Event) (n : Stamp) (m : Content) (r : Row) (k : Set) → k n ≡ true → fits e (r .kind) ≡ true → Born (r .kind) (k (r .birth) ≡ true)
     → Born (eventRow e n m r .kind) (k (eventRow e n m r .birth) ≡ true)
 unfolding eventRow fits isLive
 event-birth creates n m r k p f b = p
@@ -144,7 +145,7 @@ new-born P removed removed a b o x y = absurd o
 -- THE STEPS keep the invariant
 module _ {v : World Vec} {h : World Set} (i : Inv v h) where
   -- an own event that fits
-  pub event-inv : (d s : ℕ) (e : Event) (m : ℕ) → fits e (h .cell d s .row .kind) ≡ true → Inv (eventful vectors v d s e m) (eventful sets h d s e m)
+  pub event-inv : (d s : ℕ) (e : Event) (m : Content) → fits e (h .cell d s .row .kind) ≡ true → Inv (eventful vectors v d s e m) (eventful sets h d s e m)
   unfolding eventful
   event-inv d s e m f =
       put-inv ti d (λ y. eqb y s) _ _
@@ -167,7 +168,7 @@ module _ {v : World Vec} {h : World Set} (i : Inv v h) where
   pass-inv a b here = put-inv i b here _ _ (λ y q. passed-fits (i .cells a y) (i .cells b y))
 
   -- a settling where the history says conflict
-  pub settle-inv : (a b s : ℕ) (c : Choice) (m : ℕ) → ruling (sets .knows) (h .cell a s) (h .cell b s) ≡ Conflict → Inv (settling vectors v a b s c m) (settling sets h a b s c m)
+  pub settle-inv : (a b s : ℕ) (c : Choice) (m : Content) → ruling (sets .knows) (h .cell a s) (h .cell b s) ≡ Conflict → Inv (settling vectors v a b s c m) (settling sets h a b s c m)
   unfolding settling stamps settleRow ruling
   settle-inv a b s theirs m r = put-inv i b (λ y. eqb y s) _ _ (λ y q. take-fits (i .cells a y) (i .cells b y))
   settle-inv a b s own m r = put-inv i b (λ y. eqb y s) _ _ (λ y q. stay-fits (i .cells a y) (i .cells b y))

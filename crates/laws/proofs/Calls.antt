@@ -3,9 +3,9 @@
 use Prim.Native.Nat.{ℕ, suc, _≤_, _<_}
 use mathlib.Core.Path.{_≡_, refl, ap, _∙_}
 use mathlib.Core.List.{List, [], _∷_}
-use mathlib.Core.Bool.{Bool, true, false, cond}
+use mathlib.Core.Bool.{Bool, true, false, cond, false≢true}
 use native.Mathlib.Omega.{arith}
-use borrow.Author.Tests.{eqb-true, eqb-false, leb-false}
+use borrow.Author.Tests.{eqb-true, eqb-false, le-leb, leb-false, ltb-false}
 use lib.ListN.{length}
 use mathlib.Core.Option.{Option, none, some, Option·map}
 use Rattle.paper.specs.Tree.{size, subtree, sheetHere, shaped, Sheet, above, later}
@@ -13,9 +13,11 @@ use Rattle.paper.specs.Walk.{Two, answers, looked}
 use Rattle.paper.specs.Acts.{stamps}
 use Rattle.paper.specs.Words.{Table, tableOf, written}
 use Rattle.paper.specs.Refusals.{first, when, tens, unless}
-use Rattle.paper.specs.Check.{checkOf}
+use Rattle.paper.specs.Check.{checkOf, contentFits}
+use Rattle.paper.specs.declared.Content.{Content}
+use Rattle.paper.specs.Devices.{mostClass}
 use Rattle.paper.specs.Good.{GoodTable}
-use Rattle.paper.specs.Calls.{Changed, Passed, newRefused, newOf, eventNamed, eventRefused, eventDone, eventOf}
+use Rattle.paper.specs.Calls.{Changed, Passed, newRefused, newOf, eventNamed, contentRefused, contentIf, eventRefused, eventDone, eventOf}
 use Rattle.paper.specs.Calls.{unlike, twoRefused, pairAt, passRefused, passDone, passOf, choiceNamed, settleRefused, settleDone, settleOf}
 use Rattle.paper.specs.Calls.{Masked, rulingHere, isFolder, conflicts, noMasks, aheadRefused, aheadSheet, aheadHere, masksOf, aheadOf}
 use Rattle.laws.proofs.Refusals.{first-both, when-none, none-so, tens-none, unless-none, unless-some, unless-at, unless-number}
@@ -28,17 +30,17 @@ pub new-number : (w d : ℕ) (plan table : List ℕ) → newOf w d plan table .n
 unfolding newOf
 new-number w d plan table = unless-at (λ (o : Changed). o .number) (newRefused w d plan table) _ _ ∙ unless-number (newRefused w d plan table)
 
-pub event-number : (w : ℕ) (t : List ℕ) (row event mark : ℕ) → eventOf w t row event mark .number ≡ eventRefused w t row event
+pub event-number : (w : ℕ) (t : List ℕ) (row event : ℕ) (content : Content) → eventOf w t row event content .number ≡ eventRefused w t row event content
 unfolding eventOf
-event-number w t row event mark = unless-at (λ (o : Changed). o .number) (eventRefused w t row event) _ _ ∙ unless-number (eventRefused w t row event)
+event-number w t row event content = unless-at (λ (o : Changed). o .number) (eventRefused w t row event content) _ _ ∙ unless-number (eventRefused w t row event content)
 
 pub pass-number : (w : ℕ) (s t : List ℕ) (row : ℕ) (list : List ℕ) → passOf w s t row list .number ≡ passRefused w s t row list
 unfolding passOf
 pass-number w s t row list = unless-at (λ (o : Passed). o .number) (passRefused w s t row list) _ _ ∙ unless-number (passRefused w s t row list)
 
-pub settle-number : (w : ℕ) (s t : List ℕ) (row choice mark : ℕ) → settleOf w s t row choice mark .number ≡ settleRefused w s t row choice
+pub settle-number : (w : ℕ) (s t : List ℕ) (row choice : ℕ) (content : Content) → settleOf w s t row choice content .number ≡ settleRefused w s t row choice content
 unfolding settleOf
-settle-number w s t row choice mark = unless-at (λ (o : Changed). o .number) (settleRefused w s t row choice) _ _ ∙ unless-number (settleRefused w s t row choice)
+settle-number w s t row choice content = unless-at (λ (o : Changed). o .number) (settleRefused w s t row choice content) _ _ ∙ unless-number (settleRefused w s t row choice content)
 
 -- the masks come with the number 0
 masks-number : (w : ℕ) (a b : Table) (row : ℕ) → masksOf (aheadHere w a b row) .number ≡ 0
@@ -65,18 +67,20 @@ pub new-refused : (w d : ℕ) (plan table : List ℕ) → (newRefused w d plan t
 unfolding newOf
 new-refused w d plan table h = unless-some (newRefused w d plan table) _ _ h
 
-pub event-refused : (w : ℕ) (t : List ℕ) (row event mark : ℕ) → (eventRefused w t row event ≡ 0 → ⊥) → eventOf w t row event mark ≡ kept (eventRefused w t row event) t
+pub event-refused : (w : ℕ) (t : List ℕ) (row event : ℕ) (content : Content) → (eventRefused w t row event content ≡ 0 → ⊥)
+    → eventOf w t row event content ≡ kept (eventRefused w t row event content) t
 unfolding eventOf
-event-refused w t row event mark h = unless-some (eventRefused w t row event) _ _ h
+event-refused w t row event content h = unless-some (eventRefused w t row event content) _ _ h
 
 pub pass-refused : (w : ℕ) (s t : List ℕ) (row : ℕ) (list : List ℕ) → (passRefused w s t row list ≡ 0 → ⊥)
     → passOf w s t row list ≡ record { number = passRefused w s t row list; count = 0; target = t; answers = list }
 unfolding passOf
 pass-refused w s t row list h = unless-some (passRefused w s t row list) _ _ h
 
-pub settle-refused : (w : ℕ) (s t : List ℕ) (row choice mark : ℕ) → (settleRefused w s t row choice ≡ 0 → ⊥) → settleOf w s t row choice mark ≡ kept (settleRefused w s t row choice) t
+pub settle-refused : (w : ℕ) (s t : List ℕ) (row choice : ℕ) (content : Content) → (settleRefused w s t row choice content ≡ 0 → ⊥)
+    → settleOf w s t row choice content ≡ kept (settleRefused w s t row choice content) t
 unfolding settleOf
-settle-refused w s t row choice mark h = unless-some (settleRefused w s t row choice) _ _ h
+settle-refused w s t row choice content h = unless-some (settleRefused w s t row choice content) _ _ h
 
 pub ahead-refused : (w : ℕ) (s t : List ℕ) (row : ℕ) → (aheadRefused w s t row ≡ 0 → ⊥) → aheadOf w s t row ≡ noMasks (aheadRefused w s t row)
 unfolding aheadOf
@@ -84,14 +88,14 @@ ahead-refused w s t row h = unless-some (aheadRefused w s t row) _ _ h
 
 -- THE WORK where nothing refuses
 
-pub event-done : (w : ℕ) (t : List ℕ) (row event mark : ℕ) → eventRefused w t row event ≡ 0
-    → eventOf w t row event mark ≡ record {
+pub event-done : (w : ℕ) (t : List ℕ) (row event : ℕ) (content : Content) → eventRefused w t row event content ≡ 0
+    → eventOf w t row event content ≡ record {
       number = 0;
       count = suc (tableOf w t .clock .counter);
-      table = written w (eventDone (tableOf w t) row (eventNamed event) mark);
+      table = written w (eventDone (tableOf w t) row (eventNamed event) content);
     }
 unfolding eventOf
-event-done w t row event mark e = unless-none (eventRefused w t row event) _ _ e
+event-done w t row event content e = unless-none (eventRefused w t row event content) _ _ e
 
 pub pass-done : (w : ℕ) (s t : List ℕ) (row : ℕ) (list : List ℕ) → passRefused w s t row list ≡ 0
     → passOf w s t row list ≡ (let a = tableOf w s in let b = tableOf w t in record {
@@ -103,14 +107,20 @@ pub pass-done : (w : ℕ) (s t : List ℕ) (row : ℕ) (list : List ℕ) → pas
 unfolding passOf
 pass-done w s t row list e = unless-none (passRefused w s t row list) _ _ e
 
-pub settle-done : (w : ℕ) (s t : List ℕ) (row choice mark : ℕ) → settleRefused w s t row choice ≡ 0
-    → settleOf w s t row choice mark ≡ record {
+pub settle-done : (w : ℕ) (s t : List ℕ) (row choice : ℕ) (content : Content) → settleRefused w s t row choice content ≡ 0
+    → settleOf w s t row choice content ≡ record {
       number = 0;
       count = cond (stamps (choiceNamed choice)) (suc (tableOf w t .clock .counter)) 0;
-      table = written w (settleDone (tableOf w s) (tableOf w t) row (choiceNamed choice) mark);
+      table = written w (settleDone (tableOf w s) (tableOf w t) row (choiceNamed choice) content);
     }
 unfolding settleOf
-settle-done w s t row choice mark e = unless-none (settleRefused w s t row choice) _ _ e
+settle-done w s t row choice content e = unless-none (settleRefused w s t row choice content) _ _ e
+
+-- A CONTENT that is taken and not refused is one that a live sheet may hold
+pub content-taken : (takes : Bool) (m : Content) → contentIf takes m ≡ 0 → takes ≡ true → contentFits m ≡ true
+unfolding contentRefused contentFits
+content-taken true m e h = let a = first-both _ _ e in le-leb _ _ (ltb-false mostClass (m .class) (when-none _ _ (a .0)))
+content-taken false m e h = absurd (false≢true h)
 
 pub ahead-done : (w : ℕ) (s t : List ℕ) (row : ℕ) → aheadRefused w s t row ≡ 0 → aheadOf w s t row ≡ masksOf (aheadHere w (tableOf w s) (tableOf w t) row)
 unfolding aheadOf

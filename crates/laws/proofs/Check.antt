@@ -27,7 +27,6 @@ use Rattle.laws.proofs.WrittenRows.{number-kind, sheet-row, sheet-floor
 
 pub record SheetFits (w : ℕ) (c : Clock) (u : Vec) (r : List ℕ) : Type 0 where
   pub laid : laid w (rowOf r .kind) (rowOf r) ≡ true
-  pub seven : getD r 7 0 ≡ 0
   pub own : floorOf w r (c .device) ≡ 0
   pub rest : blank (drop (newestAt w) r) ≡ true
   pub known : known (full c u (floorOf w r)) (rowOf r .kind) (rowOf r) ≡ true
@@ -44,14 +43,13 @@ module _ (w : ℕ) (c : Clock) where
   unfolding sheetFits
   sheet-facts u r e =
       let a = and-both (laid w (rowOf r .kind) (rowOf r)) _ e in
-      let b = and-both (eqb (getD r 7 0) 0) _ (a .1) in
-      let f = and-both (eqb (floorOf w r (c .device)) 0) _ (b .1) in
+      let f = and-both (eqb (floorOf w r (c .device)) 0) _ (a .1) in
       let g = and-both (blank (drop (newestAt w) r)) _ (f .1) in
-      record { laid = a .0; seven = eqb-true _ _ (b .0); own = eqb-true _ _ (f .0); rest = g .0; known = g .1 }
+      record { laid = a .0; own = eqb-true _ _ (f .0); rest = g .0; known = g .1 }
 
   pub facts-sheet : (u : Vec) (r : List ℕ) → SheetFits w c u r → sheetFits w c u r ≡ true
   unfolding sheetFits
-  facts-sheet u r f = both-and (f .laid) (both-and (eq-eqb _ _ (f .seven)) (both-and (eq-eqb _ _ (f .own)) (both-and (f .rest) (f .known))))
+  facts-sheet u r f = both-and (f .laid) (both-and (eq-eqb _ _ (f .own)) (both-and (f .rest) (f .known)))
 
   pub folder-facts : (r : List ℕ) (k : Tree) → folderFits w c r k ≡ true → FolderFits w c r k
   unfolding folderFits
@@ -73,17 +71,12 @@ module _ (w : ℕ) (c : Clock) where
   good-thin (sheet s r) u g = (g .0 .floor .narrow, good-thin r u (g .1))
   good-thin (folder f k r) u g = (g .0 .narrow, good-thin k (greatest u f) (g .1), good-thin r u (g .2))
 
-  seven : (s : Sheet) → getD (sheetWords w s) 7 0 ≡ 0
-  unfolding sheetWords
-  seven s = refl
-
   pub sheet-passes : (u : Vec) (s : Sheet) → GoodSheet w c u s → SheetFits w c u (sheetWords w s)
   sheet-passes u s g =
       let r = sheet-row w s in
       let f = sheet-floor w s (g .floor .narrow) in
       record {
         laid = rw r (g .laid);
-        seven = seven s;
         own = rw f (g .floor .own);
         rest = rw (sheet-rest w s) (zeros-blank (3 * w));
         known = rw (r, f) (g .known);
@@ -126,10 +119,10 @@ module _ (w : ℕ) (c : Clock) where
   unfolding sheetWords rowOf
   sheet-back u r s f =
       let z : length (drop (newestAt w) r) ≡ 3 * w = omega (arith, length-drop (newestAt w) r, s .long) in
-      ap₂ (λ x y. x ∷ 1 ∷ getD r 2 0 ∷ getD r 3 0 ∷ getD r 4 0 ∷ getD r 5 0 ∷ getD r 6 0 ∷ 0 ∷ y) (number-kind (getD r 0 0) (s .kind))
+      ap₂ (λ x y. x ∷ 1 ∷ getD r 2 0 ∷ getD r 3 0 ∷ getD r 4 0 ∷ getD r 5 0 ∷ getD r 6 0 ∷ getD r 7 0 ∷ y) (number-kind (getD r 0 0) (s .kind))
       (ap₂ _++_ (columns-part w floorAt r (omega (arith, s .long))) (ap (λ n. replicate n 0) (sym z) ∙ sym (blank-zeros (drop (newestAt w) r) (f .rest)) ∙ skip floorAt w r)
       ∙ take-append-drop w (drop floorAt r))
-      ∙ ap₂ (λ x y. getD r 0 0 ∷ x ∷ getD r 2 0 ∷ getD r 3 0 ∷ getD r 4 0 ∷ getD r 5 0 ∷ getD r 6 0 ∷ y ∷ drop floorAt r) (sym (s .one)) (sym (f .seven))
+      ∙ ap (λ x. getD r 0 0 ∷ x ∷ getD r 2 0 ∷ getD r 3 0 ∷ getD r 4 0 ∷ getD r 5 0 ∷ getD r 6 0 ∷ getD r 7 0 ∷ drop floorAt r) (sym (s .one))
       ∙ sym (eight r (omega (arith, s .long)))
 
   -- a vector's words, where the vector is alike to v

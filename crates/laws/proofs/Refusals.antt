@@ -24,6 +24,12 @@ unfolding first
 first-next zero r e = refl
 first-next (suc n) r e = absurd (omega arith)
 
+-- one that does not apply, after another
+pub first-skip : (n m : ℕ) (r : List ℕ) → m ≡ 0 → first (n ∷ m ∷ r) ≡ first (n ∷ r)
+unfolding first
+first-skip zero m r e = first-next m r e
+first-skip (suc n) m r e = refl
+
 pub first-here : (n : ℕ) (r : List ℕ) → (n ≡ 0 → ⊥) → first (n ∷ r) ≡ n
 unfolding first
 first-here zero r e = absurd (e refl)

@@ -13,6 +13,7 @@ use lib.ListN.{length, getD}
 use mathlib.Core.Option.{Option}
 use Rattle.paper.specs.declared.Ruling.{Ruling}
 use Rattle.paper.specs.declared.Stamp.{Stamp}
+use Rattle.paper.specs.declared.Content.{Content}
 use Rattle.paper.specs.declared.Clock.{Clock}
 use Rattle.paper.specs.Columns.{Vec, zeros, greatest}
 use Rattle.paper.specs.Rules.{Kind, never, live, removed, Row}
@@ -39,7 +40,9 @@ module _ (v w : ℕ) (more : v ≤ w) where
   laid-wider : (k : Kind) (r : Row) → laid v k r ≡ true → laid w k r ≡ true
   unfolding laid
   laid-wider never r e = e
-  laid-wider live r e = let a = and-both (proper v (r .stamp)) _ e in both-and (proper-wider (r .stamp) (a .0)) (proper-wider (r .birth) (a .1))
+  laid-wider live r e =
+      let a = and-both (proper v (r .stamp)) _ e in let b = and-both (proper v (r .birth)) _ (a .1) in
+      both-and (proper-wider (r .stamp) (a .0)) (both-and (proper-wider (r .birth) (b .0)) (b .1))
   laid-wider removed r e = let a = and-both (proper v (r .stamp)) _ e in both-and (proper-wider (r .stamp) (a .0)) (a .1)
 
   floor-wider : (c : Clock) (f : Vec) → GoodFloor v c f → GoodFloor w c f
@@ -252,14 +255,14 @@ pub pass-stopped : (s t : List ℕ) (row : ℕ) (list : List ℕ) → (twoWidths
 unfolding passAny
 pass-stopped s t row list h = unless-some (twoWidths s t) _ _ h
 
-pub record Settle-any (s t : List ℕ) (row choice mark : ℕ) : Type 0 where
+pub record Settle-any (s t : List ℕ) (row choice : ℕ) (content : Content) : Type 0 where
   pub two : Two-any s t
-  pub same : settleAny s t row choice mark ≡ settleOf (widthOf t) s t row choice mark
+  pub same : settleAny s t row choice content ≡ settleOf (widthOf t) s t row choice content
 
-pub settle-any : (s t : List ℕ) (row choice mark : ℕ) → settleAny s t row choice mark .number ≡ 0 → Settle-any s t row choice mark
+pub settle-any : (s t : List ℕ) (row choice : ℕ) (content : Content) → settleAny s t row choice content .number ≡ 0 → Settle-any s t row choice content
 unfolding settleAny
-settle-any s t row choice mark e =
-    let x = unless-first (twoWidths s t) (λ (o : Changed). o .number) _ (settleOf (widthOf t) s t row choice mark) refl e in
+settle-any s t row choice content e =
+    let x = unless-first (twoWidths s t) (λ (o : Changed). o .number) _ (settleOf (widthOf t) s t row choice content) refl e in
     record { two = two-any s t (x .0); same = x .1 }
 
 pub record Ahead-any (s t : List ℕ) (row : ℕ) : Type 0 where

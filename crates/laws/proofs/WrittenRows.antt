@@ -48,7 +48,7 @@ module _ (w : ℕ) where
 
     pub sheet-row : rowOf (sheetWords w s) ≡ s .row
     unfolding sheetWords rowOf
-    sheet-row = ap (λ k. record { kind = k; stamp = s .row .stamp; birth = s .row .birth; mark = s .row .mark }) (kind-number (s .row .kind))
+    sheet-row = ap (λ k. record { kind = k; stamp = s .row .stamp; birth = s .row .birth; content = s .row .content }) (kind-number (s .row .kind))
 
     pub sheet-floor : Narrow w (s .floor) → floorOf w (sheetWords w s) ≡ s .floor
     unfolding sheetWords part

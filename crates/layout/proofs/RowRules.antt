@@ -11,11 +11,12 @@ use lib.ListN.{length, getD, take, drop, length-drop}
 use lib.Seq.{getD-take, getD-drop, take-all}
 use Rattle.paper.specs.declared.Clock.{Clock}
 use Rattle.paper.specs.declared.Stamp.{Stamp}
+use Rattle.paper.specs.declared.Content.{Content}
 use Rattle.paper.specs.Columns.{Vec, vec, full, covers, alike, part}
 use Rattle.paper.specs.Rules.{never, live, removed}
 use Rattle.paper.specs.Tree.{greatestWith}
 use Rattle.paper.specs.Words.{wide, floorAt, newestAt, leastAt, mostAt, kindOf, rowOf, floorOf}
-use Rattle.paper.specs.Check.{blank, proper, absent, laid, known, sheetFits, summed}
+use Rattle.paper.specs.Check.{blank, proper, absent, contentFits, contentAbsent, laid, known, sheetFits, summed}
 use Rattle.laws.proofs.Bools.{and-both}
 use Rattle.summary.specs.declared.Summary.{Summary}
 use Rattle.summary.specs.Sums.{said, sumsUnder}
@@ -37,19 +38,22 @@ module _ (r : List ℕ) where
   unfolding rowOf kindOf
   kind-never h g = rw (ne-eqb _ _ h, ne-eqb _ _ g)
 
-  -- the layout by the kind word, and by the stamp and the birth that were read
-  pub laid-live : (w : ℕ) (s b : Stamp) → getD r 0 0 ≡ 1 → s ≡ rowOf r .stamp → b ≡ rowOf r .birth → laid w (rowOf r .kind) (rowOf r) ≡ (proper w s && proper w b)
+  -- the layout by the kind word, and by the stamp, the birth and the content that were read
+  pub laid-live : (w : ℕ) (s b : Stamp) (m : Content) → getD r 0 0 ≡ 1 → s ≡ rowOf r .stamp → b ≡ rowOf r .birth → m ≡ rowOf r .content
+      → laid w (rowOf r .kind) (rowOf r) ≡ (proper w s && (proper w b && contentFits m))
   unfolding laid
-  laid-live w s b h p q = ap (λ k. laid w k (rowOf r)) (kind-live h) ∙ ap₂ (λ x y. proper w x && proper w y) (sym p) (sym q)
+  laid-live w s b m h p q z =
+      ap (λ k. laid w k (rowOf r)) (kind-live h) ∙ ap₂ (λ x y. proper w x && (proper w y && contentFits (rowOf r .content))) (sym p) (sym q)
+      ∙ ap (λ y. proper w s && (proper w b && contentFits y)) (sym z)
 
-  pub laid-removed : (w : ℕ) (s : Stamp) → getD r 0 0 ≡ 2 → s ≡ rowOf r .stamp → laid w (rowOf r .kind) (rowOf r) ≡ (proper w s && (absent (rowOf r .birth) && eqb (rowOf r .mark) 0))
+  pub laid-removed : (w : ℕ) (s : Stamp) → getD r 0 0 ≡ 2 → s ≡ rowOf r .stamp → laid w (rowOf r .kind) (rowOf r) ≡ (proper w s && (absent (rowOf r .birth) && contentAbsent (rowOf r .content)))
   unfolding laid
-  laid-removed w s h p = ap (λ k. laid w k (rowOf r)) (kind-removed h) ∙ ap (λ x. proper w x && (absent (rowOf r .birth) && eqb (rowOf r .mark) 0)) (sym p)
+  laid-removed w s h p = ap (λ k. laid w k (rowOf r)) (kind-removed h) ∙ ap (λ x. proper w x && (absent (rowOf r .birth) && contentAbsent (rowOf r .content))) (sym p)
 
   pub laid-never : (w : ℕ) (s : Stamp) → (getD r 0 0 ≡ 1 → ⊥) → (getD r 0 0 ≡ 2 → ⊥) → s ≡ rowOf r .stamp
-      → laid w (rowOf r .kind) (rowOf r) ≡ (absent s && (absent (rowOf r .birth) && eqb (rowOf r .mark) 0))
+      → laid w (rowOf r .kind) (rowOf r) ≡ (absent s && (absent (rowOf r .birth) && contentAbsent (rowOf r .content)))
   unfolding laid
-  laid-never w s h g p = ap (λ k. laid w k (rowOf r)) (kind-never h g) ∙ ap (λ x. absent x && (absent (rowOf r .birth) && eqb (rowOf r .mark) 0)) (sym p)
+  laid-never w s h g p = ap (λ k. laid w k (rowOf r)) (kind-never h g) ∙ ap (λ x. absent x && (absent (rowOf r .birth) && contentAbsent (rowOf r .content))) (sym p)
 
   -- what has to be covered, likewise
   pub known-live : (v : Vec) (s b : Stamp) → getD r 0 0 ≡ 1 → s ≡ rowOf r .stamp → b ≡ rowOf r .birth → known v (rowOf r .kind) (rowOf r) ≡ (covers v s && covers v b)
@@ -84,7 +88,9 @@ module _ (w : ℕ) (r : List ℕ) (e : laid w (rowOf r .kind) (rowOf r) ≡ true
 
   pub birth-column : getD r 0 0 ≡ 1 → rowOf r .birth .device < w
   unfolding proper
-  birth-column k = ltb-true _ _ (and-both _ _ (and-both (proper w (rowOf r .stamp)) _ (sym (laid-live r w (rowOf r .stamp) (rowOf r .birth) k refl refl) ∙ e) .1) .0)
+  birth-column k =
+      let a = and-both (proper w (rowOf r .stamp)) _ (sym (laid-live r w (rowOf r .stamp) (rowOf r .birth) (rowOf r .content) k refl refl refl) ∙ e) in
+      ltb-true _ _ (and-both _ _ (and-both (proper w (rowOf r .birth)) _ (a .1) .0) .0)
 
 -- a stamp is covered by the known time of the row r under the floors u: by the counter, by the floors above, by its floor
 module _ (w : ℕ) (c : Clock) (u : Vec) (r : List ℕ) (s : Stamp) where
@@ -107,13 +113,9 @@ module _ (w : ℕ) (c : Clock) (u : Vec) (r : List ℕ) where
   unfolding sheetFits
   not-laid e = rw e
 
-  pub not-seven : (getD r 7 0 ≡ 0 → ⊥) → sheetFits w c u r ≡ false
-  unfolding sheetFits
-  not-seven e = rw (ne-eqb _ _ e, and-false)
-
   pub not-own : eqb (floorOf w r (c .device)) 0 ≡ false → sheetFits w c u r ≡ false
   unfolding sheetFits
-  not-own e = rw (e, and-false, and-false)
+  not-own e = rw (e, and-false)
 
   module _ (long : length r ≡ wide w) where
     rest-part : take (wide w - newestAt w) (drop (newestAt w) r) ≡ drop (newestAt w) r
@@ -121,12 +123,12 @@ module _ (w : ℕ) (c : Clock) (u : Vec) (r : List ℕ) where
 
     pub not-rest : blank (take (wide w - newestAt w) (drop (newestAt w) r)) ≡ false → sheetFits w c u r ≡ false
     unfolding sheetFits
-    not-rest e = rw (sym (ap blank rest-part) ∙ e, and-false, and-false, and-false)
+    not-rest e = rw (sym (ap blank rest-part) ∙ e, and-false, and-false)
 
-    pub sheet-known : {b : Bool} → laid w (rowOf r .kind) (rowOf r) ≡ true → getD r 7 0 ≡ 0 → eqb (floorOf w r (c .device)) 0 ≡ true → blank (take (wide w - newestAt w) (drop (newestAt w) r)) ≡ true
+    pub sheet-known : {b : Bool} → laid w (rowOf r .kind) (rowOf r) ≡ true → eqb (floorOf w r (c .device)) 0 ≡ true → blank (take (wide w - newestAt w) (drop (newestAt w) r)) ≡ true
         → b ≡ known (full c u (floorOf w r)) (rowOf r .kind) (rowOf r) → b ≡ sheetFits w c u r
     unfolding sheetFits
-    sheet-known l s o e k = k ∙ sym (rw (l, eq-eqb _ _ s, o, sym (ap blank rest-part) ∙ e))
+    sheet-known l o e k = k ∙ sym (rw (l, o, sym (ap blank rest-part) ∙ e))
 
 -- a folder's summaries, by the vectors that were read: the first that differs decides; past newest and least, most does
 module _ (w : ℕ) (r : List ℕ) (newest least most : Vec) where

@@ -3,6 +3,7 @@ pub mod narrow;
 pub mod wide;
 
 use paper::Clock;
+use paper::Content;
 use paper::Stamp;
 use summary::Summary;
 use vector::Vector;
@@ -17,7 +18,7 @@ ghost use lib.ListN.{length};
 ghost use Rattle.paper.specs.Columns.{vec, full, covers};
 ghost use Rattle.paper.specs.Words.{wide, floorAt, rowOf, floorOf};
 ghost use Rattle.paper.specs.Widths.{Width};
-ghost use Rattle.paper.specs.Check.{proper, absent, laid, known, sheetFits, summed};
+ghost use Rattle.paper.specs.Check.{proper, absent, contentFits, contentAbsent, laid, known, sheetFits, summed};
 ghost use Rattle.paper.specs.Devices.{devices};
 ghost use Rattle.summary.specs.Sums.{said};
 ghost use Rattle.layout.specs.FolderSums.{folderBy};
@@ -59,18 +60,44 @@ fn birth_of(r: &[u32]) -> Stamp
     Stamp::of(r[Row::BIRTH], r[Row::BIRTH + 1])
 }
 
-// Birth and mark are zero.
+// A row's content.
+fn content_of(r: &[u32]) -> Content
+    requires { ⌜ floorAt ≤ length (now r) ⌝ }
+    ensures { λ m. ⌜ m ≡ rowOf (now (r .entry)) .content ⌝ }
+{
+    Content::of(r[Row::MARK], r[Row::CLASS])
+}
+
+// A live sheet may hold it.
+fn content_fits(content: Content) -> bool
+    ensures { λ r. ⌜ r ≡ contentFits content ⌝ }
+{
+    content.class <= Content::MOST_CLASS
+}
+
+// It is no content.
+fn is_empty(content: Content) -> bool
+    ensures { λ r. ⌜ r ≡ contentAbsent content ⌝ }
+{
+    let none = Content::none();
+    if content.mark != none.mark {
+        return false;
+    }
+    content.class == none.class
+}
+
+// There is no birth and no content.
 fn is_unborn(r: &[u32]) -> bool
     requires { ⌜ floorAt ≤ length (now r) ⌝ }
-    ensures { λ b. ⌜ b ≡ (absent (rowOf (now (r .entry)) .birth) && eqb (rowOf (now (r .entry)) .mark) 0) ⌝ }
+    ensures { λ b. ⌜ b ≡ (absent (rowOf (now (r .entry)) .birth) && contentAbsent (rowOf (now (r .entry)) .content)) ⌝ }
 {
     if !is_absent(birth_of(r)) {
         return false;
     }
-    r[Row::MARK] == 0
+    is_empty(content_of(r))
 }
 
-// Stamp, birth and mark are as the kind of the row says.
+// Stamp, birth and content are as the kind of the row says.
 fn is_laid(r: &[u32], columns: usize) -> bool
     requires { ⌜ floorAt ≤ length (now r) ⌝ }
     ensures { λ b. ⌜ b ≡ laid columns (rowOf (now (r .entry)) .kind) (rowOf (now (r .entry))) ⌝ }
@@ -81,7 +108,10 @@ fn is_laid(r: &[u32], columns: usize) -> bool
         if !is_proper(stamp, columns) {
             return false;
         }
-        return is_proper(birth_of(r), columns);
+        if !is_proper(birth_of(r), columns) {
+            return false;
+        }
+        return content_fits(content_of(r));
     }
     if kind == Row::REMOVED {
         if !is_proper(stamp, columns) {

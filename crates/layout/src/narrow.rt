@@ -28,9 +28,6 @@ pub fn sheet_fits(r: &[u32], clock: Clock, u: Vector) -> bool
     if !is_laid(r, Narrow::COLUMNS) {
         return false;
     }
-    if r[Row::SPARE] != 0 {
-        return false;
-    }
     if !is_own_zero(r, clock, Narrow::COLUMNS) {
         return false;
     }

@@ -20,7 +20,7 @@ module _ (w : ℕ) where
   -- the eight words before the floor
   sheetHead : Row → List ℕ
   sheetHead r =
-      kindNumber (r .kind) ∷ 1 ∷ r .stamp .device ∷ r .stamp .count ∷ r .birth .device ∷ r .birth .count ∷ r .mark ∷ 0 ∷ []
+      kindNumber (r .kind) ∷ 1 ∷ r .stamp .device ∷ r .stamp .count ∷ r .birth .device ∷ r .birth .count ∷ r .content .mark ∷ r .content .class ∷ []
 
   -- with another floor
   pub sheet-floored : (s : Sheet) (f : Vec) (q : List ℕ) → floored w f (sheetWords w s ++ q) ≡ sheetWords w (record { row = s .row; floor = f }) ++ q

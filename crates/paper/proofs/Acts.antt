@@ -1,14 +1,15 @@
 -- The three events, the three settlings, a widening and who is ahead, at the words, by computation: of each, the number and count returned, the
 -- clock afterwards, the row's first sixteen words (its floor is the last eight of them), and the table's check.
-use Prim.Native.Nat.{ℕ, _*_}
+use Prim.Native.Nat.{ℕ, _+_, _*_}
 use mathlib.Core.Path.{_≡_, refl}
 use mathlib.Core.List.{List, [], _∷_, _++_}
-use lib.ListN.{take, replicate}
+use lib.ListN.{take, replicate, set}
+use Rattle.paper.specs.Acts.{holding}
 use Rattle.paper.specs.Words.{wide, tableOf}
 use Rattle.paper.specs.Check.{checkOf}
 use Rattle.paper.specs.Calls.{Changed, Masked, rowAt}
 use Rattle.paper.specs.Widths.{eventAny, settleAny, widenOf, aheadAny}
-use Rattle.paper.proofs.Play.{Step, event, pass, Desk, fresh, narrow, table, play, played}
+use Rattle.paper.proofs.Play.{Step, event, pass, Desk, fresh, narrow, table, play, played, works}
 
 record Outcome : Type 0 where
   number : ℕ
@@ -28,26 +29,26 @@ seen row o = record {
 }
 
 -- device 0's event e at row 2
-worked : Desk → ℕ → ℕ → Outcome
-worked k e mark = seen 2 (eventAny (table k 0) 2 e mark)
+worked : Desk → ℕ → ℕ → ℕ → Outcome
+worked k e mark class = seen 2 (eventAny (table k 0) 2 e (holding mark class))
 
 -- device 1 settles its conflict with device 0 at row 2
-settled : Desk → ℕ → ℕ → Outcome
-settled k choice mark = seen 2 (settleAny (table k 0) (table k 1) 2 choice mark)
+settled : Desk → ℕ → ℕ → ℕ → Outcome
+settled k choice mark class = seen 2 (settleAny (table k 0) (table k 1) 2 choice (holding mark class))
 
 -- an accepted call
 accepted : ℕ → ℕ → List ℕ → Outcome
 accepted count counter row = record { number = 0; count = count; counter = counter; row = row; check = 0 }
 
 created : List Step
-created = event 0 2 1 700 ∷ []
+created = works 0 2 1 (holding 700 3) ∷ []
 
 removed : List Step
 removed = event 0 2 1 700 ∷ event 0 2 3 9 ∷ []
 
 -- both have changed a sheet that both had; the target has removed it instead; each has created its own
 changed-both : List Step
-changed-both = event 0 2 1 700 ∷ pass 0 1 0 ∷ event 0 2 2 701 ∷ event 1 2 2 702 ∷ []
+changed-both = event 0 2 1 700 ∷ pass 0 1 0 ∷ works 0 2 2 (holding 701 4) ∷ works 1 2 2 (holding 702 5) ∷ []
 
 target-removed : List Step
 target-removed = event 0 2 1 700 ∷ pass 0 1 0 ∷ event 0 2 2 701 ∷ event 1 2 3 0 ∷ []
@@ -57,30 +58,30 @@ created-both = event 0 2 1 703 ∷ event 1 2 1 704 ∷ []
 
 -- a sheet that is there is changed, and removed; a conflict is settled by theirs, by own and by a new row
 goes-on : Desk → List Outcome
-goes-on k = worked k 2 701 ∷ worked k 3 702 ∷ []
+goes-on k = worked k 2 701 9 ∷ worked k 3 702 10 ∷ []
 
 each-choice : Desk → List Outcome
-each-choice k = settled k 1 705 ∷ settled k 2 705 ∷ settled k 3 705 ∷ []
+each-choice k = settled k 1 705 10 ∷ settled k 2 705 10 ∷ settled k 3 705 6 ∷ []
 
 outcomes : List Outcome
 outcomes =
-    (worked narrow 1 700 ∷ goes-on (play narrow created))
-    ++ (worked (play narrow removed) 1 703 ∷ each-choice (play narrow changed-both))
-    ++ (settled (play narrow target-removed) 3 706 ∷ settled (play narrow created-both) 3 707 ∷ [])
+    (worked narrow 1 700 1 ∷ goes-on (play narrow created))
+    ++ (worked (play narrow removed) 1 703 2 ∷ each-choice (play narrow changed-both))
+    ++ (settled (play narrow target-removed) 3 706 7 ∷ settled (play narrow created-both) 3 707 8 ∷ [])
 
 meant : List Outcome
 meant =
-    -- created, changed, removed (the mark is ignored), created anew
-    accepted 1 1 (1 ∷ 1 ∷ 0 ∷ 1 ∷ 0 ∷ 1 ∷ 700 ∷ 0 ∷ 0 ∷ 0 ∷ 0 ∷ 0 ∷ 0 ∷ 0 ∷ 0 ∷ 0 ∷ [])
-    ∷ accepted 2 2 (1 ∷ 1 ∷ 0 ∷ 2 ∷ 0 ∷ 1 ∷ 701 ∷ 0 ∷ 0 ∷ 0 ∷ 0 ∷ 0 ∷ 0 ∷ 0 ∷ 0 ∷ 0 ∷ [])
+    -- created, changed, removed (mark and class are ignored), created anew
+    accepted 1 1 (1 ∷ 1 ∷ 0 ∷ 1 ∷ 0 ∷ 1 ∷ 700 ∷ 1 ∷ 0 ∷ 0 ∷ 0 ∷ 0 ∷ 0 ∷ 0 ∷ 0 ∷ 0 ∷ [])
+    ∷ accepted 2 2 (1 ∷ 1 ∷ 0 ∷ 2 ∷ 0 ∷ 1 ∷ 701 ∷ 9 ∷ 0 ∷ 0 ∷ 0 ∷ 0 ∷ 0 ∷ 0 ∷ 0 ∷ 0 ∷ [])
     ∷ accepted 2 2 (2 ∷ 1 ∷ 0 ∷ 2 ∷ 0 ∷ 0 ∷ 0 ∷ 0 ∷ 0 ∷ 0 ∷ 0 ∷ 0 ∷ 0 ∷ 0 ∷ 0 ∷ 0 ∷ [])
-    ∷ accepted 3 3 (1 ∷ 1 ∷ 0 ∷ 3 ∷ 0 ∷ 3 ∷ 703 ∷ 0 ∷ 0 ∷ 0 ∷ 0 ∷ 0 ∷ 0 ∷ 0 ∷ 0 ∷ 0 ∷ [])
+    ∷ accepted 3 3 (1 ∷ 1 ∷ 0 ∷ 3 ∷ 0 ∷ 3 ∷ 703 ∷ 2 ∷ 0 ∷ 0 ∷ 0 ∷ 0 ∷ 0 ∷ 0 ∷ 0 ∷ 0 ∷ [])
     -- theirs, own, new; new where the target was removed: the source's birth; new where each was born apart: the target's
-    ∷ accepted 0 1 (1 ∷ 1 ∷ 0 ∷ 2 ∷ 0 ∷ 1 ∷ 701 ∷ 0 ∷ 2 ∷ 0 ∷ 0 ∷ 0 ∷ 0 ∷ 0 ∷ 0 ∷ 0 ∷ [])
-    ∷ accepted 0 1 (1 ∷ 1 ∷ 1 ∷ 1 ∷ 0 ∷ 1 ∷ 702 ∷ 0 ∷ 2 ∷ 0 ∷ 0 ∷ 0 ∷ 0 ∷ 0 ∷ 0 ∷ 0 ∷ [])
-    ∷ accepted 2 2 (1 ∷ 1 ∷ 1 ∷ 2 ∷ 0 ∷ 1 ∷ 705 ∷ 0 ∷ 2 ∷ 0 ∷ 0 ∷ 0 ∷ 0 ∷ 0 ∷ 0 ∷ 0 ∷ [])
-    ∷ accepted 2 2 (1 ∷ 1 ∷ 1 ∷ 2 ∷ 0 ∷ 1 ∷ 706 ∷ 0 ∷ 2 ∷ 0 ∷ 0 ∷ 0 ∷ 0 ∷ 0 ∷ 0 ∷ 0 ∷ [])
-    ∷ accepted 2 2 (1 ∷ 1 ∷ 1 ∷ 2 ∷ 1 ∷ 1 ∷ 707 ∷ 0 ∷ 1 ∷ 0 ∷ 0 ∷ 0 ∷ 0 ∷ 0 ∷ 0 ∷ 0 ∷ [])
+    ∷ accepted 0 1 (1 ∷ 1 ∷ 0 ∷ 2 ∷ 0 ∷ 1 ∷ 701 ∷ 4 ∷ 2 ∷ 0 ∷ 0 ∷ 0 ∷ 0 ∷ 0 ∷ 0 ∷ 0 ∷ [])
+    ∷ accepted 0 1 (1 ∷ 1 ∷ 1 ∷ 1 ∷ 0 ∷ 1 ∷ 702 ∷ 5 ∷ 2 ∷ 0 ∷ 0 ∷ 0 ∷ 0 ∷ 0 ∷ 0 ∷ 0 ∷ [])
+    ∷ accepted 2 2 (1 ∷ 1 ∷ 1 ∷ 2 ∷ 0 ∷ 1 ∷ 705 ∷ 6 ∷ 2 ∷ 0 ∷ 0 ∷ 0 ∷ 0 ∷ 0 ∷ 0 ∷ 0 ∷ [])
+    ∷ accepted 2 2 (1 ∷ 1 ∷ 1 ∷ 2 ∷ 0 ∷ 1 ∷ 706 ∷ 7 ∷ 2 ∷ 0 ∷ 0 ∷ 0 ∷ 0 ∷ 0 ∷ 0 ∷ 0 ∷ [])
+    ∷ accepted 2 2 (1 ∷ 1 ∷ 1 ∷ 2 ∷ 1 ∷ 1 ∷ 707 ∷ 8 ∷ 1 ∷ 0 ∷ 0 ∷ 0 ∷ 0 ∷ 0 ∷ 0 ∷ 0 ∷ [])
     ∷ []
 
 -- EVENTS AND SETTLINGS
@@ -99,7 +100,7 @@ wider : Changed → Wider
 wider o = record { number = o .number; count = o .count; check = checkOf 16 (o .table); row = rowAt 16 (o .table) 2 }
 
 widening : wider (widenOf (table (play narrow created) 0) (replicate (6 * wide 16) 9))
-    ≡ record { number = 0; count = 5; check = 0; row = 1 ∷ 1 ∷ 0 ∷ 1 ∷ 0 ∷ 1 ∷ 700 ∷ replicate 65 0 }
+    ≡ record { number = 0; count = 5; check = 0; row = 1 ∷ 1 ∷ 0 ∷ 1 ∷ 0 ∷ 1 ∷ 700 ∷ 3 ∷ replicate 64 0 }
 unfolding wider created played
 widening = refl
 
@@ -120,3 +121,17 @@ masks n a b = record { number = n; source = a; target = b }
 who-is-ahead : who ≡ masks 0 1 2 ∷ masks 0 1 6 ∷ masks 0 32768 256 ∷ masks 14 0 0 ∷ []
 unfolding who asked masks heard-of-two created changed-both created-both played
 who-is-ahead = refl
+
+-- A COPY brings the whole content
+copied : take 8 (rowAt 8 (table (play narrow (works 0 2 1 (holding 700 3) ∷ pass 0 1 0 ∷ [])) 1) 2) ≡ 1 ∷ 1 ∷ 0 ∷ 1 ∷ 0 ∷ 1 ∷ 700 ∷ 3 ∷ []
+unfolding played
+copied = refl
+
+-- WHAT A ROW MAY HOLD: the check of a table whose row 2 has another word at a place
+with-word : List Step → ℕ → ℕ → ℕ
+with-word steps place n = checkOf 8 (set (table (play narrow steps) 0) (wide 8 + 2 * wide 8 + place) n)
+
+-- class 9 and 10 of a live sheet, class 1 of one that is removed or never was
+held : with-word created 7 9 ∷ with-word created 7 10 ∷ with-word removed 7 1 ∷ with-word [] 7 1 ∷ [] ≡ 0 ∷ 3 ∷ 3 ∷ 3 ∷ []
+unfolding with-word created removed played
+held = refl

@@ -3,6 +3,8 @@ use Prim.{Unit, tt}
 use Prim.Native.Nat.{ℕ, _*_}
 use mathlib.Core.List.{List, [], _∷_, map}
 use lib.ListN.{getD, replicate, set}
+use Rattle.paper.specs.declared.Content.{Content}
+use Rattle.paper.specs.Acts.{holding}
 use Rattle.paper.specs.Refusals.{first}
 use Rattle.paper.specs.Calls.{Changed, Passed}
 use Rattle.paper.specs.Words.{wide}
@@ -11,9 +13,16 @@ use Rattle.paper.proofs.Computed.{computed}
 
 -- a step of a run: table d has event e at a row, a is passed to b from a row on, b settles with a at a row by choice c
 pub data Step : Type 0 where
-  event : (d row e mark : ℕ) → Step
+  works : (d row e : ℕ) (content : Content) → Step
   pass : (a b row : ℕ) → Step
-  settle : (a b row c mark : ℕ) → Step
+  settles : (a b row c : ℕ) (content : Content) → Step
+
+-- with a mark, and class 0
+abbrev pub event : (d row e mark : ℕ) → Step
+event d row e mark = works d row e (holding mark 0)
+
+abbrev pub settle : (a b row c mark : ℕ) → Step
+settle a b row c mark = settles a b row c (holding mark 0)
 
 -- the tables of three devices, and the first refusal so far
 pub record Desk : Type 0 where
@@ -49,9 +58,9 @@ unfoldable pub received : Desk → ℕ → Passed → Desk
 received k d o = with-table k d (o .target) (o .number)
 
 unfoldable pub step : Desk → Step → Desk
-step k (event d row e mark) = changed k d (eventAny (table k d) row e mark)
+step k (works d row e content) = changed k d (eventAny (table k d) row e content)
 step k (pass a b row) = received k b (passed k a b row)
-step k (settle a b row c mark) = changed k b (settleAny (table k a) (table k b) row c mark)
+step k (settles a b row c content) = changed k b (settleAny (table k a) (table k b) row c content)
 
 unfoldable pub play : Desk → List Step → Desk
 play k [] = k

@@ -5,8 +5,8 @@ use mathlib.Core.Bool.{Bool, true, false, not, cond}
 use native.Mathlib.Omega.{arith}
 use lib.Dec.{leb, eqb}
 use borrow.Author.Tests.{lt-ltb, le-ltb, eq-eqb, ne-eqb}
-use Rattle.paper.specs.Acts.{own, new, stamps}
-use Rattle.paper.specs.Calls.{oneToThree, choiceNamed}
+use Rattle.paper.specs.Acts.{changes, removes, takesContent, own, new, stamps, choiceTakes}
+use Rattle.paper.specs.Calls.{oneToThree, eventNamed, choiceNamed}
 
 -- an event or a choice, and whether it makes a stamp
 pub named-none : (n : ℕ) → n ≡ 0 → false ≡ oneToThree n
@@ -26,5 +26,30 @@ unfolding stamps choiceNamed
 stamps-other n h = rw (ne-eqb n 1 h) (go (eqb n 2))
   where
     go : (b : Bool) → not b ≡ stamps (cond b own new)
+    go true = refl
+    go false = refl
+
+-- whether a content is taken, by an event and by a choice
+pub takes-created : (n : ℕ) → n ≡ 1 → true ≡ takesContent (eventNamed n)
+unfolding eventNamed
+takes-created n h = rw (eq-eqb n 1 h)
+
+pub takes-other : (n : ℕ) → (n ≡ 1 → ⊥) → eqb n 2 ≡ takesContent (eventNamed n)
+unfolding eventNamed
+takes-other n h = rw (ne-eqb n 1 h) (go (eqb n 2))
+  where
+    go : (b : Bool) → b ≡ takesContent (cond b changes removes)
+    go true = refl
+    go false = refl
+
+pub choice-theirs : (n : ℕ) → n ≡ 1 → false ≡ choiceTakes (choiceNamed n)
+unfolding choiceNamed
+choice-theirs n h = rw (eq-eqb n 1 h)
+
+pub choice-other : (n : ℕ) → (n ≡ 1 → ⊥) → not (eqb n 2) ≡ choiceTakes (choiceNamed n)
+unfolding choiceNamed
+choice-other n h = rw (ne-eqb n 1 h) (go (eqb n 2))
+  where
+    go : (b : Bool) → not b ≡ choiceTakes (cond b own new)
     go true = refl
     go false = refl

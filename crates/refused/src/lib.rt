@@ -3,8 +3,9 @@ pub mod of_pair;
 pub mod of_showing;
 pub mod of_table;
 
+use paper::Content;
 ghost use mathlib.Core.Path.{_≡_};
-ghost use Rattle.paper.specs.Calls.{oneToThree};
+ghost use Rattle.paper.specs.Calls.{oneToThree, contentIf};
 
 // Event or choice is 1, 2 or 3.
 pub fn is_one_to_three(n: u32) -> bool
@@ -14,4 +15,17 @@ pub fn is_one_to_three(n: u32) -> bool
         return false;
     }
     n <= 3
+}
+
+// What refuses the content of a call, where it is taken: 21.
+pub fn content_refused(takes: bool, content: Content) -> u32
+    ensures { λ r. ⌜ r ≡ contentIf takes content ⌝ }
+{
+    if !takes {
+        return 0;
+    }
+    if Content::MOST_CLASS < content.class {
+        return 21;
+    }
+    0
 }

@@ -1,5 +1,8 @@
 // What refuses two tables and a row: a pass, a settling, the question who is ahead.
+use crate::content_refused;
 use crate::is_one_to_three;
+use paper::Choice;
+use paper::Content;
 use table::check::check;
 use table::head::clock_of;
 use table::head::columns_of;
@@ -10,7 +13,7 @@ use vector::row::Row;
 use verdict::ruling::ruling_at;
 ghost use mathlib.Core.Path.{_≡_};
 ghost use Prim.Native.Nat.{_≤_};
-ghost use Rattle.paper.specs.Acts.{stamps};
+ghost use Rattle.paper.specs.Acts.{stamps, choiceTakes};
 ghost use Rattle.paper.specs.Words.{tableOf};
 ghost use Rattle.paper.specs.Check.{checkOf};
 ghost use Rattle.paper.specs.Calls.{unlike, choiceNamed};
@@ -87,9 +90,25 @@ pub fn is_stamping(choice: u32) -> bool
     choice != 2
 }
 
-// As a pass up to 8, then 16, 10, 14, 15.
-pub fn settle_refused(source: &[u32], target: &[u32], row: u32, choice: u32) -> u32
-    ensures { λ r. ⌜ r ≡ settleRefusedAny (now (source .entry)) (now (target .entry)) row choice ⌝ }
+// Whether a choice takes the content that is handed in.
+pub fn choice_takes(choice: u32) -> bool
+    ensures { λ r. ⌜ r ≡ choiceTakes (choiceNamed choice) ⌝ }
+{
+    if choice == Choice::THEIRS {
+        return false;
+    }
+    choice != Choice::OWN
+}
+
+// As a pass up to 8, then 16, 21, 10, 14, 15.
+pub fn settle_refused(
+    source: &[u32],
+    target: &[u32],
+    row: u32,
+    choice: u32,
+    content: Content,
+) -> u32
+    ensures { λ r. ⌜ r ≡ settleRefusedAny (now (source .entry)) (now (target .entry)) row choice content ⌝ }
 {
     let number = two_refused(source, target, row);
     if number != 0 {
@@ -97,6 +116,10 @@ pub fn settle_refused(source: &[u32], target: &[u32], row: u32, choice: u32) -> 
     }
     if !is_one_to_three(choice) {
         return 16;
+    }
+    let number = content_refused(choice_takes(choice), content);
+    if number != 0 {
+        return number;
     }
     let said = ruling_at(source, target, row as usize, columns_of(target));
     if said.is_folder() {

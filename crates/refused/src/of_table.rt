@@ -1,5 +1,8 @@
 // What refuses a new table, and one table alone: an event, a widening, a showing of the rows beneath a folder.
+use crate::content_refused;
 use crate::is_one_to_three;
+use paper::Content;
+use paper::Event;
 use plan::plan_fits;
 use table::check::check;
 use table::head::columns_of;
@@ -11,7 +14,7 @@ ghost use mathlib.Core.Path.{_≡_};
 ghost use mathlib.Core.Bool.{cond, false};
 ghost use lib.Dec.{eqb};
 ghost use Prim.Native.Nat.{_≤_};
-ghost use Rattle.paper.specs.Acts.{fits};
+ghost use Rattle.paper.specs.Acts.{fits, takesContent};
 ghost use Rattle.paper.specs.Words.{kindOf};
 ghost use Rattle.paper.specs.Calls.{newRefused, eventNamed, eventRefused};
 ghost use Rattle.paper.specs.Widths.{widthOf, eightOrSixteen, widenRefused};
@@ -75,9 +78,19 @@ pub fn fits_kind(event: u32, kind: u32) -> bool
     kind == Row::LIVE
 }
 
-// The first refusal of an event: 1, 2, 3, 16, 8, 10, 15.
-pub fn event_refused(table: &[u32], row: u32, event: u32) -> u32
-    ensures { λ r. ⌜ r ≡ eventRefused (widthOf (now (table .entry))) (now (table .entry)) row event ⌝ }
+// Whether an event takes the content that is handed in.
+pub fn takes_content(event: u32) -> bool
+    ensures { λ r. ⌜ r ≡ takesContent (eventNamed event) ⌝ }
+{
+    if event == Event::CREATES {
+        return true;
+    }
+    event == Event::CHANGES
+}
+
+// The first refusal of an event: 1, 2, 3, 16, 21, 8, 10, 15.
+pub fn event_refused(table: &[u32], row: u32, event: u32, content: Content) -> u32
+    ensures { λ r. ⌜ r ≡ eventRefused (widthOf (now (table .entry))) (now (table .entry)) row event content ⌝ }
 {
     let number = check(table);
     if number != 0 {
@@ -85,6 +98,10 @@ pub fn event_refused(table: &[u32], row: u32, event: u32) -> u32
     }
     if !is_one_to_three(event) {
         return 16;
+    }
+    let number = content_refused(takes_content(event), content);
+    if number != 0 {
+        return number;
     }
     if table[Head::ROWS] <= row {
         return 8;

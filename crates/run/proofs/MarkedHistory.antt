@@ -10,13 +10,14 @@ use mathlib.Core.Path.{_≡_, refl}
 use mathlib.Core.List.{List, [], _∷_, _++_, map}
 use lib.ListN.{replicate}
 use Rattle.paper.specs.Rules.{ruling, numberOf}
+use Rattle.paper.specs.Acts.{holding}
 use Rattle.paper.specs.Widths.{eventAny, passAny, settleAny, widenOf}
 use Rattle.paper.proofs.Computed.{computed}
 use Rattle.run.specs.Knowledge
 use Rattle.run.specs.World
 use Rattle.run.specs.Run
 use Rattle.run.specs.Knowledge.{sets}
-use Rattle.run.specs.Run.{Step, event, pass, settle, widen, State, begun, step}
+use Rattle.run.specs.Run.{Step, pass, widen, State, begun, step}
 
 -- folders 0 and 1, sheets 2, 3 and 4
 plan : List ℕ
@@ -39,11 +40,18 @@ whole a b = pass a b 0 (replicate 5 9)
 part : ℕ → ℕ → Step
 part a b = pass a b 1 (replicate 3 9)
 
+-- an event and a settling with a mark, and class 0
+abbrev event : (d row e mark : ℕ) → Step
+event d row e mark = Run.event d row e (holding mark 0)
+
+abbrev settle : (a b row c mark : ℕ) → Step
+settle a b row c mark = Run.settle a b row c (holding mark 0)
+
 -- the number of a call
 number : State → Step → ℕ
-number s (event d row e m) = eventAny (s .tables d) row e m .number
+number s (Run.event d row e m) = eventAny (s .tables d) row e m .number
 number s (pass a b row list) = passAny (s .tables a) (s .tables b) row list .number
-number s (settle a b row c m) = settleAny (s .tables a) (s .tables b) row c m .number
+number s (Run.settle a b row c m) = settleAny (s .tables a) (s .tables b) row c m .number
 number s (widen d wider) = widenOf (s .tables d) wider .number
 
 -- a run: calls, and between them what the history says of sheets 2, 3 and 4, from a source to a target; an aside is another way

@@ -6,6 +6,7 @@ use mathlib.Core.List.{List, [], append-nil}
 use mathlib.Core.Option.{Option, none, some, Option·map}
 use borrow.Author.Tests.{eqb-false, eq-eqb, ne-eqb}
 use Rattle.paper.specs.declared.Stamp.{Stamp}
+use Rattle.paper.specs.declared.Content.{Content}
 use Rattle.paper.specs.declared.Clock.{Clock}
 use Rattle.paper.specs.Columns.{Vec, full}
 use Rattle.paper.specs.Rules.{Kind, never, live, removed, Row}
@@ -65,7 +66,7 @@ module _ (b : Clock) where
   count-by false = refl
 
 -- THE ROW step by step, as the code goes: its floor raised, `one`, and then the choice
-module _ (w : ℕ) (b : Clock) (v : Vec) (n m : ℕ) (s r one : List ℕ) (raise : one ≡ floored w (raised b (floorOf w r) v) r) where
+module _ (w : ℕ) (b : Clock) (v : Vec) (n : ℕ) (m : Content) (s r one : List ℕ) (raise : one ≡ floored w (raised b (floorOf w r) v) r) where
   settled-by : (c : Choice) → choiceNamed n ≡ c → (k : Ticked) → k ≡ tickedBy c b → (two : List ℕ) → two ≡ chosenWords c (newStamp b) m s one → RowSettled w b v n m s r two k
   unfolding settledWords
   settled-by c e k f two g = (f ∙ ap (λ x. tickedBy x b) (sym e), g ∙ ap₂ (λ x y. chosenWords x (newStamp b) m s y) (sym e) raise)
@@ -89,21 +90,21 @@ floor-words : (w : ℕ) (x : Sheet) (f : Vec) → floored w f (sheetWords w x) �
 floor-words w x f = ap (floored w f) (sym (append-nil (sheetWords w x))) ∙ sheet-floored w x f [] ∙ append-nil (sheetWords w (record { row = x .row; floor = f }))
 
 -- and with a new row written into it
-new-words : (w : ℕ) (stamp : Stamp) (m : ℕ) (x : Sheet) (k : Kind) (s b : Stamp) (mark : ℕ) (f : Vec) → (let r : Row = record { kind = k; stamp = s; birth = b; mark = mark } in
+new-words : (w : ℕ) (stamp : Stamp) (m : Content) (x : Sheet) (k : Kind) (s b : Stamp) (held : Content) (f : Vec) → (let r : Row = record { kind = k; stamp = s; birth = b; content = held } in
     newWords stamp m (sheetWords w x) (sheetWords w (record { row = r; floor = f })) ≡ sheetWords w (record { row = settleRow new stamp m (x .row) r; floor = f }))
 unfolding newWords sheetWords settleRow birthOf kindNumber
-new-words w stamp m x never s b mark f = refl
-new-words w stamp m x live s b mark f = refl
-new-words w stamp m x removed s b mark f = refl
+new-words w stamp m x never s b held f = refl
+new-words w stamp m x live s b held f = refl
+new-words w stamp m x removed s b held f = refl
 
 -- or with any choice
-choice-words : (w : ℕ) (c : Choice) (stamp : Stamp) (m : ℕ) (x y : Sheet)
+choice-words : (w : ℕ) (c : Choice) (stamp : Stamp) (m : Content) (x y : Sheet)
     → chosenWords c stamp m (sheetWords w x) (sheetWords w y) ≡ sheetWords w (record { row = settleRow c stamp m (x .row) (y .row); floor = y .floor })
 unfolding chosenWords settleRow
 choice-words w theirs stamp m x y =
     ap₂ takenFrom (sym (append-nil (sheetWords w x))) (sym (append-nil (sheetWords w y))) ∙ sheet-taken w x y [] [] ∙ append-nil (sheetWords w (record { row = x .row; floor = y .floor }))
 choice-words w own stamp m x y = refl
-choice-words w new stamp m x y = new-words w stamp m x (y .row .kind) (y .row .stamp) (y .row .birth) (y .row .mark) (y .floor)
+choice-words w new stamp m x y = new-words w stamp m x (y .row .kind) (y .row .stamp) (y .row .birth) (y .row .content) (y .floor)
 
 -- what is there where no refusal applies
 pub record SettleFits (w : ℕ) (s t : List ℕ) (row choice : ℕ) : Type 0 where
@@ -115,12 +116,12 @@ both-false : (a b : Bool) → (a && b) ≡ false → a ≡ true → b ≡ false
 both-false true b e h = e
 both-false false b e h = absurd (false≢true h)
 
-pub settle-facts : (w : ℕ) (s t : List ℕ) (row choice : ℕ) → settleRefused w s t row choice ≡ 0 → SettleFits w s t row choice
+pub settle-facts : (w : ℕ) (s t : List ℕ) (row choice : ℕ) (content : Content) → settleRefused w s t row choice content ≡ 0 → SettleFits w s t row choice
 unfolding settleRefused
-settle-facts w s t row choice e =
+settle-facts w s t row choice content e =
     let a = first-both (twoRefused w s t row) _ e in
     let b = first-both _ _ (a .1) in
-    let c = first-both _ _ (b .1) in
+    let c = first-both _ _ (first-both _ _ (b .1) .1) in
     let d = first-both _ _ (c .1) in
     let f = first-both _ _ (d .1) in
     record {
@@ -134,7 +135,7 @@ pub record Sheets (w : ℕ) (s t : List ℕ) (row : ℕ) : Type 0 where
   pub x : Two Sheet
   pub is : sheetHere (pairAt (tableOf w s) (tableOf w t) row) ≡ some x
 
-module _ (w : ℕ) (s t : List ℕ) (row choice mark : ℕ) (ok : SettleFits w s t row choice) where
+module _ (w : ℕ) (s t : List ℕ) (row choice : ℕ) (content : Content) (ok : SettleFits w s t row choice) where
   abbrev a : Table
   a = tableOf w s
 
@@ -167,7 +168,7 @@ module _ (w : ℕ) (s t : List ℕ) (row choice mark : ℕ) (ok : SettleFits w s
 
   -- the sheet afterwards
   abbrev after : Sheet
-  after = settleSheet (a .clock) (b .clock) (above (a .tree) row) c mark x
+  after = settleSheet (a .clock) (b .clock) (above (a .tree) row) c content x
 
   fine-a : FineSheet w (x .a)
   unfolding source-at
@@ -177,7 +178,7 @@ module _ (w : ℕ) (s t : List ℕ) (row choice mark : ℕ) (ok : SettleFits w s
   unfolding target-at
   fine-b = sheet-fine w t row target-at
 
-  stamp-fine : (c : Choice) → b .clock .device < w → settleRow c (newStamp (b .clock)) mark (x .a .row) (x .b .row) .stamp .device < w
+  stamp-fine : (c : Choice) → b .clock .device < w → settleRow c (newStamp (b .clock)) content (x .a .row) (x .b .row) .stamp .device < w
   unfolding settleRow
   stamp-fine theirs h = fine-a .1
   stamp-fine own h = fine-b .1
@@ -192,26 +193,26 @@ module _ (w : ℕ) (s t : List ℕ) (row choice mark : ℕ) (ok : SettleFits w s
 
   -- its words, as the row's part came back
   after-words : (v : Vec) (e : List ℕ) → v ≡ full (a .clock) (above (a .tree) row) (floorOf w (rowAt w s row))
-      → e ≡ settledWords w (b .clock) v c mark (cutRow w s row) (cutRow w t row) → e ≡ sheetWords w after
+      → e ≡ settledWords w (b .clock) v c content (cutRow w s row) (cutRow w t row) → e ≡ sheetWords w after
   unfolding settleSheet settledWords source-at target-at
   after-words v e known wrote =
       let floor-is : (y : Sheet) → FineSheet w y → floorOf w (sheetWords w y) ≡ y .floor = λ y f. ap (λ (z : Sheet). z .floor) (sheet-read w y (f .0)) in
       let floor-a : floorOf w (rowAt w s row) ≡ x .a .floor = ap (floorOf w) (sym (row-cut w s row) ∙ sheet-part w s row source-at) ∙ floor-is (x .a) fine-a in
       let know = full (a .clock) (above (a .tree) row) in
       let f = raised (b .clock) (x .b .floor) (know (x .a .floor)) in
-      let by = chosenWords c (newStamp (b .clock)) mark (sheetWords w (x .a)) in
+      let by = chosenWords c (newStamp (b .clock)) content (sheetWords w (x .a)) in
       wrote
-      ∙ ap₂ (λ y z. settledWords w (b .clock) v c mark y z) (sheet-part w s row source-at) (sheet-part w t row target-at)
+      ∙ ap₂ (λ y z. settledWords w (b .clock) v c content y z) (sheet-part w s row source-at) (sheet-part w t row target-at)
       ∙ ap₂ (λ (y z : Vec). by (floored w (raised (b .clock) y z) (sheetWords w (x .b)))) (floor-is (x .b) fine-b) (known ∙ ap know floor-a)
       ∙ ap by (floor-words w (x .b) f)
-      ∙ choice-words w c (newStamp (b .clock)) mark (x .a) (record { row = x .b .row; floor = f })
+      ∙ choice-words w c (newStamp (b .clock)) content (x .a) (record { row = x .b .row; floor = f })
 
   -- A SETTLING IN PLACE: the row's part came back settled, and the counter is that of the clock afterwards
   pub settle-changed : (v : Vec) (e : List ℕ) (k : Ticked) → v ≡ full (a .clock) (above (a .tree) row) (floorOf w (rowAt w s row))
-      → RowSettled w (b .clock) v choice mark (cutRow w s row) (cutRow w t row) e k
-      → Changed w t (putRow w t row e (k .clock .counter)) row (settleDone a b row c mark)
+      → RowSettled w (b .clock) v choice content (cutRow w s row) (cutRow w t row) e k
+      → Changed w t (putRow w t row e (k .clock .counter)) row (settleDone a b row c content)
   unfolding settleDone
   settle-changed v e k known wrote =
-      sheet-made w t row target-at (settleSheet (a .clock) (b .clock) (above (a .tree) row) c mark) (λ y. y .b) (zip (a .tree) (b .tree)) x (sheets .is) after-fine
+      sheet-made w t row target-at (settleSheet (a .clock) (b .clock) (above (a .tree) row) c content) (λ y. y .b) (zip (a .tree) (b .tree)) x (sheets .is) after-fine
       e (after-words v e known (wrote .1))
       (k .clock) (cond (stamps c) (ticked (b .clock)) (b .clock)) (ap (λ (z : Ticked). z .clock) (wrote .0) ∙ clock-by (b .clock) (stamps c)) (device-by (b .clock) (stamps c))

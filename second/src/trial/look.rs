@@ -60,6 +60,11 @@ pub fn mark(table: &[u32], row: usize) -> u32 {
     at(table, row, word::MARK)
 }
 
+/// The class of a row.
+pub fn class(table: &[u32], row: usize) -> u32 {
+    at(table, row, word::CLASS)
+}
+
 /// A vector of a row.
 pub fn vector(table: &[u32], row: usize, time: Time) -> Vector {
     Vector::of(&table[counts(table, row, time)])

@@ -5,10 +5,10 @@
 
 use std::ops::Range;
 
-pub use second::layout::{head, word, Kind, Time, Width, MOST_ROWS};
+pub use second::layout::{head, word, Kind, Time, Width, LAST_CLASS, MOST_ROWS};
 pub use second::trial::look::*;
 pub use second::trial::{plans, two_of, Random};
-pub use second::{Answer, Masks, Vector};
+pub use second::{Answer, Content, Masks, Vector};
 
 /// The plan of the marked sheets.
 pub const PLAN: [u32; 5] = [5, 3, 0, 0, 0];
@@ -86,10 +86,16 @@ impl Desk {
         }
     }
 
-    /// An event on a device; gives its count.
+    /// An event on a device, with class 0; gives its count.
     pub fn event(&mut self, device: usize, row: usize, event: u32, mark: u32) -> u32 {
+        self.event_with(device, row, event, Content { mark, class: 0 })
+    }
+
+    /// An event on a device; gives its count.
+    pub fn event_with(&mut self, device: usize, row: usize, event: u32, content: Content) -> u32 {
+        let Content { mark, class } = content;
         let before = self.tables[device][head::COUNTER];
-        let answer = second::event(&mut self.tables[device], row as u32, event, mark);
+        let answer = second::event(&mut self.tables[device], row as u32, event, mark, class);
         assert_eq!(answer, done(before + 1), "event {event} at row {row}");
         assert_sound(&self.tables[device]);
         answer.count
@@ -105,7 +111,7 @@ impl Desk {
         (answers, answer.count)
     }
 
-    /// A settling; gives the count of the new stamp, if any.
+    /// A settling, with class 0; gives the count of the new stamp, if any.
     pub fn settle(
         &mut self,
         source: usize,
@@ -114,8 +120,21 @@ impl Desk {
         choice: u32,
         mark: u32,
     ) -> u32 {
+        self.settle_with(source, target, row, choice, Content { mark, class: 0 })
+    }
+
+    /// A settling; gives the count of the new stamp, if any.
+    pub fn settle_with(
+        &mut self,
+        source: usize,
+        target: usize,
+        row: usize,
+        choice: u32,
+        content: Content,
+    ) -> u32 {
+        let Content { mark, class } = content;
         let (source, target) = pair(&mut self.tables, source, target);
-        let answer = second::settle(source, target, row as u32, choice, mark);
+        let answer = second::settle(source, target, row as u32, choice, mark, class);
         assert_eq!(answer.number, 0, "settling by {choice} at row {row}");
         assert_sound(target);
         answer.count

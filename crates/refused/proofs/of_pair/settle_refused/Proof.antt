@@ -6,10 +6,10 @@ use borrow.Author.Needs.{needs}
 use borrow.Author.Tests.{not-true, not-false, eq-eqb, ne-eqb}
 use lib.Dec.{eqb}
 use lib.ListN.{getD}
-use Rattle.paper.specs.Acts.{stamps}
+use Rattle.paper.specs.Acts.{stamps, choiceTakes}
 use Rattle.paper.specs.Words.{tableOf}
 use Rattle.paper.specs.Refusals.{when}
-use Rattle.paper.specs.Calls.{isFolder, conflicts, oneToThree, choiceNamed, lastCount, settleRefused}
+use Rattle.paper.specs.Calls.{isFolder, conflicts, oneToThree, choiceNamed, lastCount, contentIf, settleRefused}
 use Rattle.paper.specs.Widths.{twoRefusedAny, settleRefusedAny}
 use Rattle.laws.proofs.Refusals.{first-here, first-next, first-one, first-passed, first-met, first-held, first-failed}
 use Rattle.laws.proofs.Widths.{widths-first, two-at, rulingAny, ruling-any}
@@ -26,36 +26,46 @@ none c = sym (c .before .two-refused .ensures) ∙ c .if1 .left
 named : (c : tie.Else2) → let s : tie.Start = search in oneToThree (s .args .choice) ≡ true
 named c = sym (c .before .is-one-to-three .ensures) ∙ not-false _ (c .if2 .left)
 
+-- what refuses the content, as it was asked, and that nothing does
+asked : (c : tie.After-content-refused)
+    → let s : tie.Start = search in c .content-refused .result ≡ contentIf (choiceTakes (choiceNamed (s .args .choice))) (s .args .content)
+asked c =
+    let s : tie.Start = search in let t : tie.After-choice-takes = search in
+    c .content-refused .ensures ∙ ap (λ b. contentIf b (s .args .content)) (t .choice-takes .ensures)
+
+held : (c : tie.Else3) → let s : tie.Start = search in contentIf (choiceTakes (choiceNamed (s .args .choice))) (s .args .content) ≡ 0
+held c = sym (asked (c .before)) ∙ c .if3 .left
+
 said : (c : tie.After-ruling-at) → let s : tie.Start = search in rulingAny (s .args .source .now) (s .args .target .now) (s .args .row) ≡ saidOf (c .ruling-at .result)
 said c = let k : tie.After-columns-of = search in sym (ruling-any _ _ _ _ _ (k .columns-of .ensures) (c .ruling-at .ensures))
 
-sheet : (c : tie.Else3) → let s : tie.Start = search in isFolder (rulingAny (s .args .source .now) (s .args .target .now) (s .args .row)) ≡ false
-sheet c = ap isFolder (said (search)) ∙ sym (c .before .is-folder .ensures) ∙ c .if3 .left
+sheet : (c : tie.Else4) → let s : tie.Start = search in isFolder (rulingAny (s .args .source .now) (s .args .target .now) (s .args .row)) ≡ false
+sheet c = ap isFolder (said (search)) ∙ sym (c .before .is-folder .ensures) ∙ c .if4 .left
 
-conflict : (c : tie.Else4) → let s : tie.Start = search in conflicts (rulingAny (s .args .source .now) (s .args .target .now) (s .args .row)) ≡ true
-conflict c = ap conflicts (said (search)) ∙ sym (c .before .is-conflict .ensures) ∙ not-false _ (c .if4 .left)
+conflict : (c : tie.Else5) → let s : tie.Start = search in conflicts (rulingAny (s .args .source .now) (s .args .target .now) (s .args .row)) ≡ true
+conflict c = ap conflicts (said (search)) ∙ sym (c .before .is-conflict .ensures) ∙ not-false _ (c .if5 .left)
 
 -- then only a stamp that can't be made refuses
-last : (c : tie.Else4)
+last : (c : tie.Else5)
     → let s : tie.Start = search in
-    settleRefusedAny (s .args .source .now) (s .args .target .now) (s .args .row) (s .args .choice)
+    settleRefusedAny (s .args .source .now) (s .args .target .now) (s .args .row) (s .args .choice) (s .args .content)
     ≡ when (stamps (choiceNamed (s .args .choice)) && eqb (getD (s .args .target .now) 1 0) lastCount) 15
 unfolding settleRefused tableOf
 last c =
-    widths-first _ _ _ _ ∙ first-next _ _ (none (search)) ∙ first-held _ _ (named (search)) ∙ first-passed _ _ (sheet (search)) ∙ first-held _ _ (conflict c)
+    widths-first _ _ _ _ ∙ first-next _ _ (none (search)) ∙ first-held _ _ (named (search)) ∙ first-next _ _ (held (search)) ∙ first-passed _ _ (sheet (search)) ∙ first-held _ _ (conflict c)
     ∙ first-one _
-
-returns-3 : tie.Need-returns-3
-unfolding settleRefused
-returns-3 c =
-    sym (widths-first _ _ _ _ ∙ first-next _ _ (none (search)) ∙ first-held _ _ (named (search))
-    ∙ first-met 9 _ (ap isFolder (said (search)) ∙ sym (c .before .is-folder .ensures) ∙ c .if3 .taken))
 
 returns-4 : tie.Need-returns-4
 unfolding settleRefused
 returns-4 c =
-    sym (widths-first _ _ _ _ ∙ first-next _ _ (none (search)) ∙ first-held _ _ (named (search)) ∙ first-passed _ _ (sheet (search))
-    ∙ first-failed 13 _ (ap conflicts (said (search)) ∙ sym (c .before .is-conflict .ensures) ∙ not-true _ (c .if4 .taken)))
+    sym (widths-first _ _ _ _ ∙ first-next _ _ (none (search)) ∙ first-held _ _ (named (search))
+    ∙ first-next _ _ (held (search)) ∙ first-met 9 _ (ap isFolder (said (search)) ∙ sym (c .before .is-folder .ensures) ∙ c .if4 .taken))
+
+returns-5 : tie.Need-returns-5
+unfolding settleRefused
+returns-5 c =
+    sym (widths-first _ _ _ _ ∙ first-next _ _ (none (search)) ∙ first-held _ _ (named (search)) ∙ first-next _ _ (held (search)) ∙ first-passed _ _ (sheet (search))
+    ∙ first-failed 13 _ (ap conflicts (said (search)) ∙ sym (c .before .is-conflict .ensures) ∙ not-true _ (c .if5 .taken)))
 
 -- whether the choice makes a stamp
 stamping : (c : tie.After-is-stamping) → let s : tie.Start = search in stamps (choiceNamed (s .args .choice)) ≡ c .is-stamping .result
@@ -69,9 +79,12 @@ settle-refused-spec =
     (λ c κs. search needs) (λ c. let e = c .before .two-refused .ensures in e ∙ sym (widths-first _ _ _ _ ∙ first-here _ _ (λ z. c .if1 .taken (e ∙ z))))
     (λ c κs. search needs)
     (λ c. sym (widths-first _ _ _ _ ∙ first-next _ _ (none (search)) ∙ first-failed 15 _ (sym (c .before .is-one-to-three .ensures) ∙ not-true _ (c .if2 .taken))))
-    (λ c κs. search needs) (λ c κs. two-at _ _ _ _ (c .columns-of .ensures) (none (search))) (λ c κs. search needs) returns-3 (λ c κs. search needs)
-    returns-4 (λ c κs. search needs)
+    (λ c κs. search needs) (λ c κs. search needs)
+    (λ c. let e = asked (c .before) in e
+    ∙ sym (widths-first _ _ _ _ ∙ first-next _ _ (none (search)) ∙ first-held _ _ (named (search)) ∙ first-here _ _ (λ z. c .if3 .taken (e ∙ z))))
+    (λ c κs. search needs) (λ c κs. two-at _ _ _ _ (c .columns-of .ensures) (none (search))) (λ c κs. search needs) returns-4 (λ c κs. search needs)
+    returns-5 (λ c κs. search needs)
     (λ c. let k : tie.After-columns-of = search in let h = two-at _ _ _ _ (k .columns-of .ensures) (none (search)) in omega (arith, begin-both _ _ _ _ (h .1) (h .0) .1 .head))
-    (λ c. let k : tie.Then5 = search in sym (last (search) ∙ rw (stamping (search) ∙ k .if5 .taken, eq-eqb _ _ (c .if6 .taken))))
-    (λ c. let k : tie.Then5 = search in sym (last (search) ∙ rw (stamping (search) ∙ k .if5 .taken, ne-eqb _ _ (c .if6 .left))))
-    (λ c. sym (last (search) ∙ rw (stamping (search) ∙ c .if5 .left))))
+    (λ c. let k : tie.Then6 = search in sym (last (search) ∙ rw (stamping (search) ∙ k .if6 .taken, eq-eqb _ _ (c .if7 .taken))))
+    (λ c. let k : tie.Then6 = search in sym (last (search) ∙ rw (stamping (search) ∙ k .if6 .taken, ne-eqb _ _ (c .if7 .left))))
+    (λ c. sym (last (search) ∙ rw (stamping (search) ∙ c .if6 .left))))

@@ -52,7 +52,7 @@ extern "C" {
 #endif
 
 /* The version of this header: major * 65536 + minor. kf_version gives that of the library that is linked. */
-#define KF_VERSION 5
+#define KF_VERSION 6
 
 /* Before a call whose answer must be looked at: the compiler warns where it is dropped. */
 #if defined(__cplusplus) && __cplusplus >= 201703L
@@ -120,7 +120,8 @@ enum kf_refusal {
                                      256 or not matching the length, word 3 neither 0 nor 16, non-zero rest */
     KF_REFUSED_ORDER = 2,         /* a kind is above 3, or sizes, row 0 or levels break the order of rows; or a plan that
                                      would give such rows */
-    KF_REFUSED_RULE = 3,          /* any other rule of the layout or the times is broken; a live row's class above 9 */
+    KF_REFUSED_RULE = 3,          /* any other rule of the layout or the times is broken; a live row with a class above 9
+                                     or mark 0 */
     KF_REFUSED_PLACES = 4,        /* sizes or folder places differ between the tables */
     KF_REFUSED_ONE_DEVICE = 5,    /* both tables have one device number */
     KF_REFUSED_SOURCE_AHEAD = 6,  /* a floor in the source names a later count of the target's device than its counter */
@@ -138,7 +139,8 @@ enum kf_refusal {
     KF_REFUSED_DEVICE = 17,       /* new table's device above 7 (above 15 with 16 columns) */
     KF_REFUSED_WIDTH = 19,        /* two tables of different width; new table's columns neither 8 nor 16; widening a
                                      table that is wide already */
-    KF_REFUSED_CLASS = 21         /* a class above 9 where one is taken: creating, changing, settling by new */
+    KF_REFUSED_CLASS = 21,        /* a class above 9 where one is taken: creating, changing, settling by new */
+    KF_REFUSED_MARK = 22          /* mark 0 where one is taken: creating, changing, settling by new */
 };
 
 /* Word 0 of a row. Everything but a folder is a sheet. */
@@ -194,9 +196,9 @@ kf_answer kf_widen(const uint32_t *table, size_t table_length, uint32_t *wide, s
 
 /*
  * Does an event to a sheet: KF_CREATE (never or removed), KF_CHANGE (live) or KF_REMOVE (live). The counter goes up by
- * one; the new stamp is counted. `mark` stands for the sheet's content, and `duty_class` is its class of duty,
- * 0 to KF_LAST_CLASS; KF_REMOVE ignores both.
- * Refused with 1, 2, 3, 16, 21, 8, 10, 15.
+ * one; the new stamp is counted. `mark`, at least 1, stands for the sheet's content, and `duty_class` is its class of
+ * duty, 0 to KF_LAST_CLASS; KF_REMOVE ignores both.
+ * Refused with 1, 2, 3, 16, 21, 22, 8, 10, 15.
  */
 KF_MUST_USE
 kf_answer kf_event(uint32_t *table, size_t table_length, uint32_t row, uint32_t event, uint32_t mark,
@@ -217,7 +219,7 @@ kf_answer kf_pass(const uint32_t *source, size_t source_length, uint32_t *target
  * Settles a sheet where the rules say conflict, in the target: KF_THEIRS takes the source's sheet, KF_OWN keeps the
  * target's, KF_NEW makes it live with a new stamp and the mark and class given (the others ignore both). The conflict
  * doesn't come back. Counts the new stamp, 0 if there is none.
- * Refused with 1, 2, 3, 11, 12, 13, 19, 4, 5, 6, 7, 8, 16, 21, 10, 14, 15.
+ * Refused with 1, 2, 3, 11, 12, 13, 19, 4, 5, 6, 7, 8, 16, 21, 22, 10, 14, 15.
  */
 KF_MUST_USE
 kf_answer kf_settle(const uint32_t *source, size_t source_length, uint32_t *target, size_t target_length, uint32_t row,

@@ -21,7 +21,7 @@ fn hurt(random: &mut Random, table: &mut Vec<u32>) {
     let width = width(table);
     let row = random.within(0..rows(table));
     let devices = [0, 1, 2, 7, 8, 15, 16, u32::MAX];
-    match random.within(0..19) {
+    match random.within(0..20) {
         0..=6 => change(random, table, row),
         7 => {
             let kind = place(table, row, word::KIND);
@@ -50,6 +50,10 @@ fn hurt(random: &mut Random, table: &mut Vec<u32>) {
         17 => {
             let class = place(table, row, word::CLASS);
             table[class] = random.one_of(&[0, 1, 9, 10, 16, u32::MAX]);
+        }
+        18 => {
+            let mark = place(table, row, word::MARK);
+            table[mark] = 0;
         }
         _ => pretend(random, table),
     }

@@ -41,15 +41,19 @@ fn hold(holds: bool, what: impl FnOnce() -> String) -> Result<(), Trouble> {
     }
 }
 
-/// Whether a call that takes a content takes this one.
-fn may_be_taken(content: Content) -> bool {
-    content.class <= LAST_CLASS
+/// Why a call that takes a content refuses this one, if it does.
+fn content_refusal(content: Content) -> Option<u32> {
+    match content {
+        Content { class, .. } if class > LAST_CLASS => Some(21),
+        Content { mark: 0, .. } => Some(22),
+        _ => None,
+    }
 }
 
-/// A content that may not be taken has been refused.
-fn refused_content(content: Content, outcome: &Outcome) -> Result<(), Trouble> {
-    hold(outcome.answer.number == 21, || {
-        format!("{content:?} gives {}", outcome.answer.number)
+/// The call was refused with this number.
+fn hold_refused(number: u32, outcome: &Outcome) -> Result<(), Trouble> {
+    hold(outcome.answer.number == number, || {
+        format!("{}, not {number}, is given", outcome.answer.number)
     })
 }
 
@@ -170,8 +174,8 @@ impl Desk<'_> {
             ..Lent::default()
         };
         let outcome = self.judge.call(Call::Event, &lent)?;
-        if act != 3 && !may_be_taken(content) {
-            return refused_content(content, &outcome);
+        if let Some(number) = content_refusal(content).filter(|_| act != 3) {
+            return hold_refused(number, &outcome);
         }
         if is_folder(&lent.target, row) {
             return hold(outcome.answer.number == 10, || {
@@ -223,8 +227,8 @@ impl Desk<'_> {
         let Some(outcome) = self.call_pair(Call::Settle, &lent)? else {
             return Ok(());
         };
-        if choice == 3 && !may_be_taken(content) {
-            return refused_content(content, &outcome);
+        if let Some(number) = content_refusal(content).filter(|_| choice == 3) {
+            return hold_refused(number, &outcome);
         }
         if is_folder(&lent.target, row) {
             return hold(outcome.answer.number == 10, || {

@@ -4,6 +4,7 @@ use std::cell::{Cell, RefCell};
 
 use second::layout::{Kind, Width, LAST_CLASS};
 use second::trial::look::{class, kind};
+use second::Content;
 
 use crate::call::{perform, Call, Lent, Outcome};
 use crate::program::Program;
@@ -15,7 +16,7 @@ const COPY: usize = 1;
 #[derive(Clone, Debug, Default, PartialEq, Eq)]
 pub struct Tally {
     /// By call, in the order of `Call::ALL`, and by number.
-    pub numbers: [[u64; 22]; Call::ALL.len()],
+    pub numbers: [[u64; 23]; Call::ALL.len()],
     /// By kind in the source, kind in the target and answer, of the sheets of passes.
     pub sheets: [[[u64; 4]; 3]; 3],
     /// Walked and passed over, of the folders of passes.
@@ -26,8 +27,8 @@ pub struct Tally {
     pub ahead: [[u64; Width::Wide.columns()]; 2],
     /// By class: given by an event or by settling new, brought by a pass that copies, taken by settling theirs.
     pub classes: [[u64; LAST_CLASS as usize + 1]; 3],
-    /// Removals, and settlings by theirs and by own, that were done with a content that no call takes.
-    pub ignored: [u64; 3],
+    /// Removals, and settlings by theirs and by own, that were done with a class above 9, and with mark 0.
+    pub ignored: [[u64; 2]; 3],
     /// Stayed and gave way: the target's removals that a pass of a run brought one they hadn't heard of.
     pub removals: [u64; 2],
 }
@@ -81,7 +82,13 @@ impl Tally {
     }
 
     fn add_ignored(&mut self, which: usize, before: &Lent) {
-        self.ignored[which] += u64::from(before.content.class > LAST_CLASS);
+        let Content { mark, class } = before.content;
+        for (times, wrong) in self.ignored[which]
+            .iter_mut()
+            .zip([class > LAST_CLASS, mark == 0])
+        {
+            *times += u64::from(wrong);
+        }
     }
 
     fn add_ahead(&mut self, masks: [u32; 2]) {

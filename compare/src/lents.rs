@@ -91,12 +91,14 @@ pub fn garbage(random: &mut Random) -> Lent {
 /// What a sheet may hold; once in so many times what none may.
 pub fn content(random: &mut Random, wrong_once_in: usize) -> Content {
     let right = right_content(random);
-    match random.once_in(wrong_once_in) {
-        false => right,
-        true => Content {
-            class: random.one_of(&[LAST_CLASS + 1, LAST_CLASS + 7, 0x8000_0000, u32::MAX]),
-            ..right
-        },
+    if !random.once_in(wrong_once_in) {
+        return right;
+    }
+    let class = random.one_of(&[LAST_CLASS + 1, LAST_CLASS + 7, 0x8000_0000, u32::MAX]);
+    match random.within(0..3) {
+        0 => Content { class, ..right },
+        1 => Content { mark: 0, ..right },
+        _ => Content { mark: 0, class },
     }
 }
 
@@ -183,6 +185,10 @@ fn at_limit(width: Width, plan: &[u32]) -> Vec<Lent> {
         answers: vec![9],
         row: last as u32,
         act,
+        content: Content {
+            mark: 1,
+            class: LAST_CLASS,
+        },
         plan: plan.to_vec(),
         columns: width.columns() as u32,
         ..Lent::default()

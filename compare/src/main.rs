@@ -3,8 +3,8 @@
 //!
 //! The last line is `N passed, M failed`: a part of the comparison counts as one, and so does each thing that must have
 //! been seen at each width: each number of each call, each answer for each pair of kinds, each side on which a row
-//! stands, each device ahead on each side, each class given and carried, a content ignored by each call that takes none,
-//! and in runs both ends of two removals that meet.
+//! stands, each device ahead on each side, each class given and carried, a class above 9 and mark 0 ignored by each call
+//! that takes none, and in runs both ends of two removals that meet.
 
 use std::env;
 use std::process::ExitCode;
@@ -268,12 +268,12 @@ fn seen(judge: &Judge, width: Width, score: &mut Score) {
             see(&format!("{way}, class {class}"), times);
         }
     }
-    println!("a content that no call takes was ignored by");
-    for (what, &times) in ["removing", "theirs", "own"]
-        .into_iter()
-        .zip(&tally.ignored)
-    {
-        see(what, times);
+    println!("a class above 9, and mark 0, was ignored by each call that takes none:");
+    let calls = ["removing", "theirs", "own"];
+    for (what, ignored) in calls.into_iter().zip(&tally.ignored) {
+        for (wrong, &times) in ["class", "mark"].into_iter().zip(ignored) {
+            see(&format!("{what}, {wrong}"), times);
+        }
     }
     println!("in a run a removal that the target hadn't heard of met one of its own, which");
     for (what, &times) in ["stayed", "gave way"].into_iter().zip(&tally.removals) {

@@ -123,7 +123,7 @@ fn happen(random: &mut Random, table: &mut [u32], row: usize, kinds: &[Kind]) {
 /// What a sheet may hold.
 pub fn right_content(random: &mut Random) -> Content {
     Content {
-        mark: random.odd_word(),
+        mark: random.odd_word().max(1),
         class: random.within(0..LAST_CLASS as usize + 1) as u32,
     }
 }

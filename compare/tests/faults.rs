@@ -273,21 +273,32 @@ fn theirs_leaves_the_class_behind() {
     found(Program { settle, ..SECOND }, Call::Settle, 2);
 }
 
+/// The check of a table in which this word of each live row has this value.
+fn check_with(table: &[u32], word: usize, value: u32) -> Answer {
+    let mut table = table.to_vec();
+    for row in 0..rows(&table) {
+        if kind(&table, row) == 1 {
+            let place = place(&table, row, word);
+            table[place] = value;
+        }
+    }
+    (SECOND.check)(&table)
+}
+
 #[test]
 fn any_class_in_a_table() {
-    let check = |table: &[u32]| {
-        let answer = (SECOND.check)(table);
-        let mut classless = table.to_vec();
-        for row in 0..rows(table) {
-            let class = place(table, row, word::CLASS);
-            if kind(table, row) == 1 {
-                classless[class] = 0;
-            }
-        }
-        match answer.number {
-            3 => (SECOND.check)(&classless),
-            _ => answer,
-        }
+    let check = |table: &[u32]| match (SECOND.check)(table) {
+        Answer { number: 3, .. } => check_with(table, word::CLASS, 0),
+        answer => answer,
+    };
+    found(Program { check, ..SECOND }, Call::Check, 2);
+}
+
+#[test]
+fn live_sheet_without_a_mark() {
+    let check = |table: &[u32]| match (SECOND.check)(table) {
+        Answer { number: 3, .. } => check_with(table, word::MARK, 1),
+        answer => answer,
     };
     found(Program { check, ..SECOND }, Call::Check, 2);
 }
@@ -337,6 +348,27 @@ fn own_refused_for_its_class() {
         answer
     };
     found(Program { settle, ..SECOND }, Call::Settle, 2);
+}
+
+#[test]
+fn mark_judged_before_the_class() {
+    let settle = |source: &[u32], target: &mut [u32], row: u32, choice: u32, content: Content| {
+        let answer = (SECOND.settle)(source, target, row, choice, content);
+        match answer.number {
+            21 if content.mark == 0 => refused(22),
+            _ => answer,
+        }
+    };
+    found(Program { settle, ..SECOND }, Call::Settle, 1);
+}
+
+#[test]
+fn removal_refused_for_its_mark() {
+    let event = |table: &mut [u32], row: u32, event: u32, content: Content| match content.mark {
+        0 if (SECOND.check)(table).number == 0 && event == 3 => refused(22),
+        _ => (SECOND.event)(table, row, event, content),
+    };
+    found(Program { event, ..SECOND }, Call::Event, 1);
 }
 
 #[test]

@@ -33,6 +33,8 @@ pub enum Refusal {
     WrongWidth,
     /// A call was given a class above 9.
     NoSuchClass,
+    /// A call was given mark 0.
+    NoMark,
     /// The plan would give rows that break the order.
     BadPlan,
 }
@@ -68,6 +70,7 @@ impl Refusal {
             Refusal::NoSuchDevice => 17,
             Refusal::WrongWidth => 19,
             Refusal::NoSuchClass => 21,
+            Refusal::NoMark => 22,
         }
     }
 }

@@ -92,6 +92,7 @@ fn event_words_are_right(row: &Row, width: Width) -> bool {
             row.stamp.is_proper(width)
                 && row.birth.is_proper(width)
                 && row.content.class <= LAST_CLASS
+                && row.content.mark >= 1
         }
     }
 }

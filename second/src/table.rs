@@ -16,7 +16,7 @@ pub struct Summary {
 /// What a live sheet holds. It travels whole, and no rule reads it.
 #[derive(Clone, Copy, Debug, Default, PartialEq, Eq)]
 pub struct Content {
-    /// What stands for the content itself.
+    /// What stands for the content itself: at least 1.
     pub mark: u32,
     /// The class of duty.
     pub class: u32,

@@ -61,6 +61,9 @@ fn taken(content: Content) -> Result<Content, Refusal> {
     if content.class > LAST_CLASS {
         return Err(Refusal::NoSuchClass);
     }
+    if content.mark == 0 {
+        return Err(Refusal::NoMark);
+    }
     Ok(content)
 }
 

@@ -22,7 +22,7 @@ struct Lent {
 }
 
 /// How often each number was given.
-type Tally = [u32; 22];
+type Tally = [u32; 23];
 
 /// Tries every call with what is lent.
 fn try_all(lent: &Lent, tally: &mut Tally) {
@@ -136,7 +136,7 @@ fn damaged(random: &mut Random) -> Lent {
         numbers: [
             row as u32,
             random.within(0..5) as u32,
-            random.word(),
+            random.odd_word(),
             random.within(0..12) as u32,
         ],
         plan,

@@ -160,8 +160,10 @@ fn words_of_each_kind() {
             gives(3, 2, event, worked.no_device());
             gives(3, 2, event + 1, 0);
         }
-        gives(0, 2, word::MARK, 0);
-        gives(0, 2, word::MARK, u32::MAX);
+        gives(3, 2, word::MARK, 0);
+        for mark in [1, 2, 0x8000_0000, u32::MAX] {
+            gives(0, 2, word::MARK, mark);
+        }
         for class in 0..=9 {
             gives(0, 2, word::CLASS, class);
         }

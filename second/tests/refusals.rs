@@ -13,6 +13,7 @@ struct Lent {
     row: u32,
     /// The event or choice.
     choice: u32,
+    mark: u32,
     class: u32,
     /// A pass's answers, or the words of a widened table.
     output: Vec<u32>,
@@ -63,6 +64,7 @@ const CHOICE_0: Fault = (16, |lent| lent.choice = 0);
 const CHOICE_4: Fault = (16, |lent| lent.choice = 4);
 const CLASS_10: Fault = (21, |lent| lent.class = 10);
 const CLASS_MAX: Fault = (21, |lent| lent.class = u32::MAX);
+const NO_MARK: Fault = (22, |lent| lent.mark = 0);
 
 /// Changes a word of a row.
 fn put(table: &mut [u32], row: usize, word: usize, value: u32) {
@@ -100,6 +102,7 @@ fn sound(width: Width) -> Lent {
         target: desk.tables[1].clone(),
         row: 2,
         choice: NEW,
+        mark: 1,
         class: LAST_CLASS,
         output: vec![7],
     }
@@ -149,11 +152,12 @@ fn of_an_event() {
             lent.row = 3;
             lent.choice = CREATE;
         },
-        |lent| second::event(&mut lent.source, lent.row, lent.choice, 9, lent.class),
+        event,
         &[
             &SOURCE,
             &[CHOICE_0, CHOICE_4],
             &[CLASS_10, CLASS_MAX],
+            &[NO_MARK],
             &[NO_ROW, NO_ROW_AT_ALL],
             &[A_FOLDER, A_LIVE_SHEET],
             &[SOURCE_FULL],
@@ -190,6 +194,7 @@ fn of_a_settling() {
             &[NO_ROW, NO_ROW_AT_ALL],
             &[CHOICE_0, CHOICE_4],
             &[CLASS_10, CLASS_MAX],
+            &[NO_MARK],
             &[A_FOLDER],
             &[NO_CONFLICT],
             &[TARGET_FULL],
@@ -197,27 +202,40 @@ fn of_a_settling() {
     );
 }
 
+/// An event to what is lent.
+fn event(lent: &mut Lent) -> Answer {
+    let Lent {
+        row,
+        choice,
+        mark,
+        class,
+        ..
+    } = *lent;
+    second::event(&mut lent.source, row, choice, mark, class)
+}
+
 /// A settling of what is lent.
 fn settle(lent: &mut Lent) -> Answer {
     let Lent {
-        row, choice, class, ..
+        row,
+        choice,
+        mark,
+        class,
+        ..
     } = *lent;
-    second::settle(&lent.source, &mut lent.target, row, choice, 9, class)
-}
-
-/// A change of what is lent.
-fn change(lent: &mut Lent) -> Answer {
-    second::event(&mut lent.source, lent.row, CHANGE, 9, lent.class)
+    second::settle(&lent.source, &mut lent.target, row, choice, mark, class)
 }
 
 #[test]
 fn of_a_change() {
     assert_orders(
-        |_| (),
-        change,
+        |lent| lent.choice = CHANGE,
+        event,
         &[
             &SOURCE,
+            &[CHOICE_0, CHOICE_4],
             &[CLASS_10, CLASS_MAX],
+            &[NO_MARK],
             &[NO_ROW, NO_ROW_AT_ALL],
             &[A_FOLDER, A_SHEET_NEVER_USED],
             &[SOURCE_FULL],
@@ -225,31 +243,44 @@ fn of_a_change() {
     );
 }
 
+/// Marks and classes, such that no call takes any but the first.
+const CONTENTS: [(u32, u32); 5] = [
+    (9, LAST_CLASS),
+    (9, LAST_CLASS + 1),
+    (0, LAST_CLASS),
+    (0, LAST_CLASS + 1),
+    (0, u32::MAX),
+];
+
 #[test]
-fn of_a_removal_whatever_the_class() {
-    for class in [0, LAST_CLASS, LAST_CLASS + 1, u32::MAX] {
+fn of_a_removal_whatever_mark_and_class() {
+    for (mark, class) in CONTENTS {
         for width in Width::BOTH {
-            let Lent { mut source, .. } = sound(width);
-            let before = source.clone();
-            assert_eq!(
-                second::event(&mut source, 3, REMOVAL, 9, class),
-                refused(10)
-            );
-            assert_eq!(source, before);
-            assert_eq!(second::event(&mut source, 2, REMOVAL, 9, class), done(3));
+            let removal = Lent {
+                choice: REMOVAL,
+                mark,
+                class,
+                ..sound(width)
+            };
+            assert_refused(&removal, event, &[A_SHEET_NEVER_USED], 10);
+            assert_eq!(event(&mut removal.clone()), done(3));
         }
     }
 }
 
 #[test]
-fn of_theirs_and_own_whatever_the_class() {
-    for class in [0, LAST_CLASS, LAST_CLASS + 1, u32::MAX] {
+fn of_theirs_and_own_whatever_mark_and_class() {
+    for (mark, class) in CONTENTS {
         for choice in [THEIRS, OWN] {
             for width in Width::BOTH {
-                let mut lent = sound(width);
-                (lent.choice, lent.class) = (choice, class);
-                assert_eq!(settle(&mut lent).number, 0);
-                assert_eq!(settle(&mut lent), refused(14));
+                let settling = Lent {
+                    choice,
+                    mark,
+                    class,
+                    ..sound(width)
+                };
+                assert_refused(&settling, settle, &[NO_CONFLICT], 14);
+                assert_eq!(settle(&mut settling.clone()).number, 0);
             }
         }
     }

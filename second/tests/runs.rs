@@ -86,7 +86,7 @@ impl Run {
     /// What a sheet may hold.
     fn some_content(&mut self) -> Content {
         Content {
-            mark: self.random.word(),
+            mark: self.random.word().max(1),
             class: self.random.within(0..10) as u32,
         }
     }

@@ -188,8 +188,8 @@ pub fn pass(source: &Table, target: &mut Table, row: usize) -> Result<Passed, Re
 ///
 /// # Errors
 ///
-/// Those of [`pass`]; there is no such class ([`Refusal::NoSuchClass`]); the row is a folder ([`Refusal::Unfit`]); the rules
-/// don't say conflict there ([`Refusal::NoConflict`]); a new stamp is needed and the device has no next count ([`Refusal::CounterFull`]).
+/// Those of [`pass`]; there is no such class ([`Refusal::NoSuchClass`]) or no mark ([`Refusal::NoMark`]) for a new sheet; the
+/// row is a folder ([`Refusal::Unfit`]); the rules don't say conflict there ([`Refusal::NoConflict`]); a new stamp is needed and the device has no next count ([`Refusal::CounterFull`]).
 pub fn settle(
     source: &Table,
     target: &mut Table,

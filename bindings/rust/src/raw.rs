@@ -39,7 +39,7 @@ pub struct Masks {
 }
 
 /// The version of the library that this crate belongs to, as [`version`] gives it.
-pub const VERSION: u32 = 5;
+pub const VERSION: u32 = 6;
 
 mod exports {
     use super::{Answer, Masks};

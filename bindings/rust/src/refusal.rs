@@ -57,6 +57,8 @@ pub enum Refusal {
     Width,
     /// There is no such class of duty.
     NoSuchClass,
+    /// There is no mark: 0 stands for none.
+    NoMark,
     /// A number that this crate has no name for: the library is newer.
     Unknown(u32),
 }
@@ -83,6 +85,7 @@ impl Refusal {
         Refusal::NoSuchDevice,
         Refusal::Width,
         Refusal::NoSuchClass,
+        Refusal::NoMark,
     ];
 
     /// The refusal of this number; `None` for 0, which is success.
@@ -153,6 +156,10 @@ impl Refusal {
                 21,
                 "a class above 9 where one is taken: creating, changing, settling by new",
             ),
+            Refusal::NoMark => (
+                22,
+                "mark 0 where one is taken: creating, changing, settling by new",
+            ),
             Refusal::Unknown(number) => (number, "a refusal that this crate has no words for"),
         }
     }
@@ -168,7 +175,8 @@ const ORDER: &str =
                      that would give such rows";
 /// What is wrong with a table otherwise.
 const RULE: &str =
-    "any other rule of the layout or the times is broken; a live row's class above 9";
+    "any other rule of the layout or the times is broken; a live row with a class above 9 \
+     or mark 0";
 
 impl fmt::Display for Refusal {
     fn fmt(&self, out: &mut fmt::Formatter<'_>) -> fmt::Result {

@@ -14,7 +14,7 @@ pub struct Stamp {
 /// What a live sheet holds. It travels with the sheet, and nothing compares it.
 #[derive(Clone, Copy, Debug, PartialEq, Eq, Hash)]
 pub struct Content {
-    /// What stands for the content itself.
+    /// What stands for the content itself: at least 1.
     pub mark: u32,
     /// The class of duty, 0 to [`Content::LAST_CLASS`].
     pub class: u32,

@@ -169,8 +169,9 @@ impl Table {
     ///
     /// # Errors
     ///
-    /// There is no such class ([`Refusal::NoSuchClass`]) or row ([`Refusal::NoSuchRow`]); the sheet is there already or is a folder
-    /// ([`Refusal::Unfit`]); the device has no next count ([`Refusal::CounterFull`]).
+    /// There is no such class ([`Refusal::NoSuchClass`]) or no mark ([`Refusal::NoMark`]); there is no such row
+    /// ([`Refusal::NoSuchRow`]); the sheet is there already or is a folder ([`Refusal::Unfit`]); the device has no next count
+    /// ([`Refusal::CounterFull`]).
     pub fn create(&mut self, row: usize, content: Content) -> Result<u32, Refusal> {
         self.event(row, Event::Create(content))
     }
@@ -179,8 +180,9 @@ impl Table {
     ///
     /// # Errors
     ///
-    /// There is no such class ([`Refusal::NoSuchClass`]) or row ([`Refusal::NoSuchRow`]); the sheet isn't there or is a folder
-    /// ([`Refusal::Unfit`]); the device has no next count ([`Refusal::CounterFull`]).
+    /// There is no such class ([`Refusal::NoSuchClass`]) or no mark ([`Refusal::NoMark`]); there is no such row
+    /// ([`Refusal::NoSuchRow`]); the sheet isn't there or is a folder ([`Refusal::Unfit`]); the device has no next count
+    /// ([`Refusal::CounterFull`]).
     pub fn change(&mut self, row: usize, content: Content) -> Result<u32, Refusal> {
         self.event(row, Event::Change(content))
     }

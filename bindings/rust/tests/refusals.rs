@@ -44,7 +44,7 @@ fn nobody_ahead(number: u32) -> raw::Masks {
 #[test]
 fn numbers_and_names_go_together() {
     let numbers: Vec<u32> = Refusal::ALL.iter().map(|no| no.number()).collect();
-    assert_eq!(numbers, (1..=17).chain([19, 21]).collect::<Vec<_>>());
+    assert_eq!(numbers, (1..=17).chain([19, 21, 22]).collect::<Vec<_>>());
     for refusal in Refusal::ALL {
         assert_eq!(Refusal::from_number(refusal.number()), Some(*refusal));
     }
@@ -232,14 +232,32 @@ fn classes_go_from_0_to_9() {
 }
 
 #[test]
-fn class_comes_after_the_event_and_before_the_row() {
+fn class_and_mark_come_after_the_event_and_before_the_row() {
     let mut words = narrow(0).into_words();
     let before = words.clone();
-    assert_eq!(raw::event(&mut words, 9, 4, 1, 10), refused(16));
-    assert_eq!(raw::event(&mut words, 9, 1, 1, 10), refused(21));
-    assert_eq!(raw::event(&mut words, 9, 3, 1, 10), refused(8));
-    assert_eq!(raw::event(&mut words, 2, 3, 1, 10), refused(10));
+    assert_eq!(raw::event(&mut words, 9, 4, 0, 10), refused(16));
+    assert_eq!(raw::event(&mut words, 9, 1, 0, 10), refused(21));
+    assert_eq!(raw::event(&mut words, 9, 1, 0, 9), refused(22));
+    assert_eq!(raw::event(&mut words, 9, 3, 0, 10), refused(8));
+    assert_eq!(raw::event(&mut words, 2, 3, 0, 10), refused(10));
     assert_eq!(words, before);
+}
+
+#[test]
+fn no_live_sheet_without_a_mark() {
+    for columns in WIDTHS {
+        let (mut desk, mut tablet) = (table(columns, 0), table(columns, 1));
+        assert_eq!(desk.create(2, marked(0)), Err(Refusal::NoMark));
+        assert_eq!(desk.create(2, marked(1)), Ok(1));
+        assert_eq!(desk.change(2, marked(0)), Err(Refusal::NoMark));
+        assert_eq!(tablet.create(2, marked(2)), Ok(1));
+        let settled = settle(&desk, &mut tablet, 2, Choice::New(marked(0)));
+        assert_eq!(settled, Err(Refusal::NoMark));
+        let words = damaged(&desk, columns.row(2) + row::MARK, 0);
+        assert_eq!(Table::from_words(words), Err(Refusal::Rule));
+        assert!(settle(&desk, &mut tablet, 2, Choice::Theirs).is_ok());
+        assert_eq!(desk.remove(2), Ok(2));
+    }
 }
 
 #[test]

@@ -93,6 +93,7 @@ impl<const C: usize> Reader<C> {
                     && is_event::<C, W>(row, 4)
                     && covers(&known, row, 2)
                     && covers(&known, row, 4)
+                    && row[6] > 0
                     && row[7] <= LAST_CLASS
             }
             _ => is_event::<C, W>(row, 2) && empty(&row[4..8]) && covers(&known, row, 2),

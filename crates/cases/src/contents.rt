@@ -1,4 +1,4 @@
-// What a live sheet holds: the class of duty goes with the mark, and one above 9 is refused. Row 1 of a table of two rows.
+// What a live sheet holds: the class of duty goes with the mark; a class above 9 is refused, and mark 0. Row 1 of a table of two rows.
 use crate::line::answer;
 use crate::line::character;
 use crate::line::one_of;
@@ -74,6 +74,12 @@ fn with_class(mut table: Small, class: u32) {
     checked(table);
 }
 
+// The same with another mark.
+fn with_mark(mut table: Small, mark: u32) {
+    table[SHEET + Row::MARK] = mark;
+    checked(table);
+}
+
 // A class travels with the mark by copy and by theirs, and is taken by new; own keeps it. What theirs and own are handed is ignored.
 pub fn travel() {
     let zero = event(fresh(0), CREATE, 700, 4);
@@ -85,23 +91,28 @@ pub fn travel() {
     settling(zero, one, Choice::NEW, 703, 9);
 }
 
-// A class above 9 is refused by 21, and nothing changes; a removal ignores it.
+// A class above 9 is refused by 21, then mark 0 by 22, and nothing changes; a removal ignores both.
 pub fn refused() {
     let zero = event(fresh(0), CREATE, 700, 10);
+    let zero = event(zero, CREATE, 0, 9);
+    let zero = event(zero, CREATE, 0, 10);
     let zero = event(zero, CREATE, 700, 9);
     let one = pass_root(zero, fresh(1));
     let zero = event(zero, CHANGE, 701, 10);
     let zero = event(zero, CHANGE, 701, 8);
     let one = event(one, CHANGE, 702, 7);
     settling(zero, one, Choice::NEW, 703, 10);
+    settling(zero, one, Choice::NEW, 0, 0);
     event(zero, REMOVE, 0, 10);
 }
 
-// In a table: a class of 9 and of 10 in a live row, and of 1 in a row that is removed or never was.
+// In a table: a class of 9 and of 10 in a live row, and of 1 in a row that is removed or never was; a mark of 1 and of 0 in a live row.
 pub fn tables() {
     let live = event(fresh(0), CREATE, 700, 0);
     with_class(live, 9);
     with_class(live, 10);
+    with_mark(live, 1);
+    with_mark(live, 0);
     let removed = event(live, REMOVE, 0, 0);
     with_class(removed, 1);
     with_class(fresh(0), 1);

@@ -50,7 +50,7 @@ module _ (n : ℕ) (least : 6 ≤ n) (most : n ≤ 7) where
 
   content-not : (takes : Bool) (m : Content) → contentIf takes m ≡ n → ⊥
   unfolding contentRefused
-  content-not true m e = first-not _ _ (when-not _ 21 (λ e. omega arith)) end-not e
+  content-not true m e = first-not _ _ (when-not _ 21 (λ e. omega arith)) (first-not _ _ (when-not _ 22 (λ e. omega arith)) end-not) e
   content-not false m e = omega (arith, least, e)
 
   -- not of a call that is refused by m or else done

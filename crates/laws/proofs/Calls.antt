@@ -5,7 +5,7 @@ use mathlib.Core.Path.{_≡_, refl, ap, _∙_}
 use mathlib.Core.List.{List, [], _∷_}
 use mathlib.Core.Bool.{Bool, true, false, cond, false≢true}
 use native.Mathlib.Omega.{arith}
-use borrow.Author.Tests.{eqb-true, eqb-false, le-leb, leb-false, ltb-false}
+use borrow.Author.Tests.{eqb-true, eqb-false, le-leb, leb-false, lt-ltb, ltb-false}
 use lib.ListN.{length}
 use mathlib.Core.Option.{Option, none, some, Option·map}
 use Rattle.paper.specs.Tree.{size, subtree, sheetHere, shaped, Sheet, above, later}
@@ -20,6 +20,7 @@ use Rattle.paper.specs.Good.{GoodTable}
 use Rattle.paper.specs.Calls.{Changed, Passed, newRefused, newOf, eventNamed, contentRefused, contentIf, eventRefused, eventDone, eventOf}
 use Rattle.paper.specs.Calls.{unlike, twoRefused, pairAt, passRefused, passDone, passOf, choiceNamed, settleRefused, settleDone, settleOf}
 use Rattle.paper.specs.Calls.{Masked, rulingHere, isFolder, conflicts, noMasks, aheadRefused, aheadSheet, aheadHere, masksOf, aheadOf}
+use Rattle.laws.proofs.Bools.{both-and}
 use Rattle.laws.proofs.Refusals.{first-both, when-none, none-so, tens-none, unless-none, unless-some, unless-at, unless-number}
 use Rattle.laws.proofs.Forests.{mapped-here}
 use Rattle.laws.proofs.Tables.{check-facts, checked-good, checked-written}
@@ -119,7 +120,11 @@ settle-done w s t row choice content e = unless-none (settleRefused w s t row ch
 -- A CONTENT that is taken and not refused is one that a live sheet may hold
 pub content-taken : (takes : Bool) (m : Content) → contentIf takes m ≡ 0 → takes ≡ true → contentFits m ≡ true
 unfolding contentRefused contentFits
-content-taken true m e h = let a = first-both _ _ e in le-leb _ _ (ltb-false mostClass (m .class) (when-none _ _ (a .0)))
+content-taken true m e h =
+    let a = first-both _ _ e in
+    let b = first-both _ _ (a .1) in
+    let some : 0 < m .mark = omega (arith, eqb-false (m .mark) 0 (when-none _ _ (b .0))) in
+    both-and (le-leb _ _ (ltb-false mostClass (m .class) (when-none _ _ (a .0)))) (lt-ltb 0 (m .mark) some)
 content-taken false m e h = absurd (false≢true h)
 
 pub ahead-done : (w : ℕ) (s t : List ℕ) (row : ℕ) → aheadRefused w s t row ≡ 0 → aheadOf w s t row ≡ masksOf (aheadHere w (tableOf w s) (tableOf w t) row)

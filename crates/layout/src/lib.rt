@@ -72,7 +72,10 @@ fn content_of(r: &[u32]) -> Content
 fn content_fits(content: Content) -> bool
     ensures { λ r. ⌜ r ≡ contentFits content ⌝ }
 {
-    content.class <= Content::MOST_CLASS
+    if Content::MOST_CLASS < content.class {
+        return false;
+    }
+    0 < content.mark
 }
 
 // It is no content.

@@ -58,10 +58,10 @@ created-both = event 0 2 1 703 ∷ event 1 2 1 704 ∷ []
 
 -- a sheet that is there is changed, and removed; a conflict is settled by theirs, by own and by a new row
 goes-on : Desk → List Outcome
-goes-on k = worked k 2 701 9 ∷ worked k 3 702 10 ∷ []
+goes-on k = worked k 2 1 9 ∷ worked k 3 0 10 ∷ []
 
 each-choice : Desk → List Outcome
-each-choice k = settled k 1 705 10 ∷ settled k 2 705 10 ∷ settled k 3 705 6 ∷ []
+each-choice k = settled k 1 0 10 ∷ settled k 2 0 10 ∷ settled k 3 705 6 ∷ []
 
 outcomes : List Outcome
 outcomes =
@@ -73,7 +73,7 @@ meant : List Outcome
 meant =
     -- created, changed, removed (mark and class are ignored), created anew
     accepted 1 1 (1 ∷ 1 ∷ 0 ∷ 1 ∷ 0 ∷ 1 ∷ 700 ∷ 1 ∷ 0 ∷ 0 ∷ 0 ∷ 0 ∷ 0 ∷ 0 ∷ 0 ∷ 0 ∷ [])
-    ∷ accepted 2 2 (1 ∷ 1 ∷ 0 ∷ 2 ∷ 0 ∷ 1 ∷ 701 ∷ 9 ∷ 0 ∷ 0 ∷ 0 ∷ 0 ∷ 0 ∷ 0 ∷ 0 ∷ 0 ∷ [])
+    ∷ accepted 2 2 (1 ∷ 1 ∷ 0 ∷ 2 ∷ 0 ∷ 1 ∷ 1 ∷ 9 ∷ 0 ∷ 0 ∷ 0 ∷ 0 ∷ 0 ∷ 0 ∷ 0 ∷ 0 ∷ [])
     ∷ accepted 2 2 (2 ∷ 1 ∷ 0 ∷ 2 ∷ 0 ∷ 0 ∷ 0 ∷ 0 ∷ 0 ∷ 0 ∷ 0 ∷ 0 ∷ 0 ∷ 0 ∷ 0 ∷ 0 ∷ [])
     ∷ accepted 3 3 (1 ∷ 1 ∷ 0 ∷ 3 ∷ 0 ∷ 3 ∷ 703 ∷ 2 ∷ 0 ∷ 0 ∷ 0 ∷ 0 ∷ 0 ∷ 0 ∷ 0 ∷ 0 ∷ [])
     -- theirs, own, new; new where the target was removed: the source's birth; new where each was born apart: the target's
@@ -131,7 +131,8 @@ copied = refl
 with-word : List Step → ℕ → ℕ → ℕ
 with-word steps place n = checkOf 8 (set (table (play narrow steps) 0) (wide 8 + 2 * wide 8 + place) n)
 
--- class 9 and 10 of a live sheet, class 1 of one that is removed or never was
-held : with-word created 7 9 ∷ with-word created 7 10 ∷ with-word removed 7 1 ∷ with-word [] 7 1 ∷ [] ≡ 0 ∷ 3 ∷ 3 ∷ 3 ∷ []
+-- class 9 and 10 of a live sheet, class 1 of one that is removed or never was; mark 1 and 0 of a live sheet
+held : with-word created 7 9 ∷ with-word created 7 10 ∷ with-word removed 7 1 ∷ with-word [] 7 1 ∷ with-word created 6 1 ∷ with-word created 6 0 ∷ []
+    ≡ 0 ∷ 3 ∷ 3 ∷ 3 ∷ 0 ∷ 3 ∷ []
 unfolding with-word created removed played
 held = refl

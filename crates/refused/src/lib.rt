@@ -17,7 +17,7 @@ pub fn is_one_to_three(n: u32) -> bool
     n <= 3
 }
 
-// What refuses the content of a call, where it is taken: 21.
+// What refuses the content of a call, where it is taken: 21, 22.
 pub fn content_refused(takes: bool, content: Content) -> u32
     ensures { λ r. ⌜ r ≡ contentIf takes content ⌝ }
 {
@@ -26,6 +26,9 @@ pub fn content_refused(takes: bool, content: Content) -> u32
     }
     if Content::MOST_CLASS < content.class {
         return 21;
+    }
+    if content.mark == 0 {
+        return 22;
     }
     0
 }

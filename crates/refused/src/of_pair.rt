@@ -100,7 +100,7 @@ pub fn choice_takes(choice: u32) -> bool
     choice != Choice::OWN
 }
 
-// As a pass up to 8, then 16, 21, 10, 14, 15.
+// As a pass up to 8, then 16, 21, 22, 10, 14, 15.
 pub fn settle_refused(
     source: &[u32],
     target: &[u32],

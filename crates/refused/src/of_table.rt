@@ -88,7 +88,7 @@ pub fn takes_content(event: u32) -> bool
     event == Event::CHANGES
 }
 
-// The first refusal of an event: 1, 2, 3, 16, 21, 8, 10, 15.
+// The first refusal of an event: 1, 2, 3, 16, 21, 22, 8, 10, 15.
 pub fn event_refused(table: &[u32], row: u32, event: u32, content: Content) -> u32
     ensures { λ r. ⌜ r ≡ eventRefused (widthOf (now (table .entry))) (now (table .entry)) row event content ⌝ }
 {

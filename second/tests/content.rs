@@ -1,4 +1,4 @@
-//! The class of duty, at both widths: it goes wherever the mark goes.
+//! Mark and class of duty, at both widths: they go together, and no call takes mark 0 or a class above 9.
 
 mod common;
 
@@ -112,5 +112,25 @@ fn class_above_9_is_refused_where_it_is_taken() {
             assert_eq!(second::settle(source, target, 2, OWN, 1, class).number, 0);
             assert_eq!(second::event(target, 2, REMOVAL, 1, class).number, 0);
         }
+    }
+}
+
+#[test]
+fn mark_0_is_refused_where_it_is_taken() {
+    for width in Width::BOTH {
+        let mut desk = in_conflict(width);
+        let before = desk.tables.clone();
+        let (source, target) = pair(&mut desk.tables, 0, 1);
+        for (class, number) in [(0, 22), (9, 22), (10, 21)] {
+            let answer = refused(number);
+            assert_eq!(second::event(target, 4, CREATE, 0, class), answer);
+            assert_eq!(second::event(target, 2, CHANGE, 0, class), answer);
+            assert_eq!(second::settle(source, target, 2, NEW, 0, class), answer);
+        }
+        assert_eq!(desk.tables, before);
+        let (source, target) = pair(&mut desk.tables, 0, 1);
+        assert_eq!(second::settle(source, target, 2, THEIRS, 0, 0).number, 0);
+        assert_eq!(second::event(target, 2, REMOVAL, 0, 0).number, 0);
+        assert_eq!(second::event(target, 2, CREATE, 1, 0).number, 0);
     }
 }

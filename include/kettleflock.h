@@ -52,7 +52,7 @@ extern "C" {
 #endif
 
 /* The version of this header: major * 65536 + minor. kf_version gives that of the library that is linked. */
-#define KF_VERSION 6
+#define KF_VERSION 7
 
 /* Before a call whose answer must be looked at: the compiler warns where it is dropped. */
 #if defined(__cplusplus) && __cplusplus >= 201703L
@@ -217,8 +217,9 @@ kf_answer kf_pass(const uint32_t *source, size_t source_length, uint32_t *target
 
 /*
  * Settles a sheet where the rules say conflict, in the target: KF_THEIRS takes the source's sheet, KF_OWN keeps the
- * target's, KF_NEW makes it live with a new stamp and the mark and class given (the others ignore both). The conflict
- * doesn't come back. Counts the new stamp, 0 if there is none.
+ * target's, KF_NEW makes it live with the mark and class given (the others ignore both). In each the counter goes up by
+ * one and the sheet has a new stamp of the target's device, which is counted. The conflict doesn't come back; two
+ * settlements of it that don't know of each other are a conflict again.
  * Refused with 1, 2, 3, 11, 12, 13, 19, 4, 5, 6, 7, 8, 16, 21, 22, 10, 14, 15.
  */
 KF_MUST_USE

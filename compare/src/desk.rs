@@ -4,7 +4,7 @@ use std::ops::Range;
 
 use second::history::{Act, Choice, Ruling};
 use second::layout::{head, Kind, Width, LAST_CLASS};
-use second::trial::look::{is_folder, kind, known, rows, size, stamp, width};
+use second::trial::look::{content_of, is_folder, kind, known, rows, size, stamp, width};
 use second::trial::{plans, two_of, Random};
 use second::Content;
 
@@ -50,10 +50,11 @@ fn content_refusal(content: Content) -> Option<u32> {
     }
 }
 
-/// The call was refused with this number.
-fn hold_refused(number: u32, outcome: &Outcome) -> Result<(), Trouble> {
-    hold(outcome.answer.number == number, || {
-        format!("{}, not {number}, is given", outcome.answer.number)
+/// Trouble with the history, unless the call gave this number.
+fn hold_number(call: Call, outcome: &Outcome, number: u32) -> Result<(), Trouble> {
+    let given = outcome.answer.number;
+    hold(given == number, || {
+        format!("{} gives {given}, not {number}", call.name())
     })
 }
 
@@ -175,12 +176,10 @@ impl Desk<'_> {
         };
         let outcome = self.judge.call(Call::Event, &lent)?;
         if let Some(number) = content_refusal(content).filter(|_| act != 3) {
-            return hold_refused(number, &outcome);
+            return hold_number(Call::Event, &outcome, number);
         }
         if is_folder(&lent.target, row) {
-            return hold(outcome.answer.number == 10, || {
-                "an event at a folder isn't refused".to_owned()
-            });
+            return hold_number(Call::Event, &outcome, 10);
         }
         if self.is_full(device, &outcome) {
             return Ok(());
@@ -204,9 +203,7 @@ impl Desk<'_> {
             Width::Wide => 19,
         };
         let outcome = self.judge.call(Call::Widen, &lent)?;
-        hold(outcome.answer.number == number, || {
-            format!("widening gives {}, not {number}", outcome.answer.number)
-        })?;
+        hold_number(Call::Widen, &outcome, number)?;
         if number == 0 {
             self.tables[device] = outcome.lent.wide;
         }
@@ -228,19 +225,22 @@ impl Desk<'_> {
             return Ok(());
         };
         if let Some(number) = content_refusal(content).filter(|_| choice == 3) {
-            return hold_refused(number, &outcome);
+            return hold_number(Call::Settle, &outcome, number);
         }
         if is_folder(&lent.target, row) {
-            return hold(outcome.answer.number == 10, || {
-                "settling a folder isn't refused".to_owned()
-            });
+            return hold_number(Call::Settle, &outcome, 10);
         }
         if self.is_full(target, &outcome) {
             return Ok(());
         }
         let choice = [Choice::Theirs, Choice::Own, Choice::New][choice as usize - 1];
         let said = self.record.history.settle(source, target, row, choice);
-        self.record.note(target, outcome.answer.count, content);
+        let settled = match choice {
+            Choice::Theirs => content_of(&lent.source, row),
+            Choice::Own => content_of(&lent.target, row),
+            Choice::New => content,
+        };
+        self.record.note(target, outcome.answer.count, settled);
         self.agree(target, row, &outcome, said, 14)
     }
 
@@ -258,9 +258,7 @@ impl Desk<'_> {
         let Some(outcome) = self.call_pair(Call::Pass, &lent)? else {
             return Ok(());
         };
-        hold(outcome.answer.number == 0, || {
-            format!("a pass is refused with {}", outcome.answer.number)
-        })?;
+        hold_number(Call::Pass, &outcome, 0)?;
         let rows = start..start + size;
         self.count_removals(&lent, &outcome.lent.target, rows.clone());
         let rulings = self.record.history.pass(source, target, rows);
@@ -301,10 +299,7 @@ impl Desk<'_> {
         let Some(outcome) = self.call_pair(Call::Ahead, &lent)? else {
             return Ok(());
         };
-        let number = self.number_ahead(pair);
-        hold(outcome.answer.number == number, || {
-            format!("who is ahead gives {}, not {number}", outcome.answer.number)
-        })
+        hold_number(Call::Ahead, &outcome, self.number_ahead(pair))
     }
 
     /// What the history says of the call for who is ahead: 0 on a conflict.

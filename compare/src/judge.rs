@@ -29,6 +29,10 @@ pub struct Tally {
     pub classes: [[u64; LAST_CLASS as usize + 1]; 3],
     /// Removals, and settlings by theirs and by own, that were done with a class above 9, and with mark 0.
     pub ignored: [[u64; 2]; 3],
+    /// By choice, then by whether the source's and the target's sheets were live: settlings that were done.
+    pub settled: [[[u64; 2]; 2]; 3],
+    /// By choice: settlings that were refused because the counter had come to its end.
+    pub full: [u64; 3],
     /// Stayed and gave way: the target's removals that a pass of a run brought one they hadn't heard of.
     pub removals: [u64; 2],
 }
@@ -57,16 +61,20 @@ impl Tally {
             (Call::Event, 0) if before.act == 3 => self.add_ignored(0, before),
             (Call::Event, 0) => self.add_class(0, before.content.class),
             (Call::Settle, 0) => self.add_settled(before, outcome),
+            (Call::Settle, 15) => self.full[before.act as usize - 1] += 1,
             _ => (),
         }
     }
 
     fn add_settled(&mut self, before: &Lent, outcome: &Outcome) {
         let (row, target) = (before.row as usize, &outcome.lent.target);
+        let is_live = |table: &[u32]| usize::from(kind(table, row) == Kind::Live.number());
+        let [a, b] = [&before.source, &before.target].map(|table| is_live(table));
+        self.settled[before.act as usize - 1][a][b] += 1;
         match before.act {
             1 => {
                 self.add_ignored(1, before);
-                if kind(target, row) == Kind::Live.number() {
+                if is_live(target) == 1 {
                     self.add_class(2, class(target, row));
                 }
             }

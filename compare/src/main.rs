@@ -4,7 +4,8 @@
 //! The last line is `N passed, M failed`: a part of the comparison counts as one, and so does each thing that must have
 //! been seen at each width: each number of each call, each answer for each pair of kinds, each side on which a row
 //! stands, each device ahead on each side, each class given and carried, a class above 9 and mark 0 ignored by each call
-//! that takes none, and in runs both ends of two removals that meet.
+//! that takes none, each choice done for each pair of kinds and refused at the counter's end, and in runs both ends of two
+//! removals that meet.
 
 use std::env;
 use std::process::ExitCode;
@@ -274,6 +275,17 @@ fn seen(judge: &Judge, width: Width, score: &mut Score) {
         for (wrong, &times) in ["class", "mark"].into_iter().zip(ignored) {
             see(&format!("{what}, {wrong}"), times);
         }
+    }
+    println!("a conflict was settled by each choice, by its kinds in source and target, and wasn't at the counter's end:");
+    for (choice, name) in ["theirs", "own", "new"].into_iter().enumerate() {
+        for (source, target) in [(1, 1), (1, 0), (0, 1)] {
+            let [a, b] = [source, target].map(|live| KINDS[2 - live]);
+            see(
+                &format!("{name}, {a} to {b}"),
+                tally.settled[choice][source][target],
+            );
+        }
+        see(&format!("{name}, at the end"), tally.full[choice]);
     }
     println!("in a run a removal that the target hadn't heard of met one of its own, which");
     for (what, &times) in ["stayed", "gave way"].into_iter().zip(&tally.removals) {

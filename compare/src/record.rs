@@ -4,7 +4,7 @@ use std::collections::{BTreeMap, BTreeSet};
 
 use second::history::{Event, History, State};
 use second::layout::Kind;
-use second::trial::look::{birth, class, kind, known, mark, stamp};
+use second::trial::look::{birth, content_of, kind, known, stamp};
 use second::Content;
 
 /// The history of a run's devices, and the counts at which its names of events start.
@@ -30,19 +30,16 @@ impl Record {
         }
     }
 
-    /// Notes what the event that a device counts so gave its sheet; of count 0 there is none.
+    /// Notes what the event that a device counts so gave its sheet. A call that was refused counts 0.
     pub fn note(&mut self, device: usize, count: u32, content: Content) {
         if count > 0 {
             self.contents.insert((device as u32, count), content);
         }
     }
 
-    /// A device's count of the event that the history counts so; 0 of none.
+    /// A device's count of the event that the history counts so.
     pub fn count_of(&self, device: usize, count: u32) -> u32 {
-        match count {
-            0 => 0,
-            _ => self.counters[device] + count,
-        }
+        self.counters[device] + count
     }
 
     /// The stamp that names an event of the history; that of none is empty.
@@ -71,10 +68,7 @@ impl Record {
                     "row {row} of device {device}: the history has {sheet:?}"
                 ));
             }
-            let holds = Content {
-                mark: mark(table, row),
-                class: class(table, row),
-            };
+            let holds = content_of(table, row);
             let given = match is {
                 Kind::Live => self.contents.get(&stamp(table, row)).copied(),
                 _ => Some(Content::NONE),

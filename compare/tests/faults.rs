@@ -371,6 +371,61 @@ fn removal_refused_for_its_mark() {
     found(Program { event, ..SECOND }, Call::Event, 1);
 }
 
+/// Gives a row of a table the stamp that it has in another.
+fn put_stamp(from: &[u32], to: &mut [u32], row: u32) {
+    let stamp = place(to, row as usize, word::STAMP);
+    to[stamp..stamp + 2].copy_from_slice(&from[stamp..stamp + 2]);
+    mend(to);
+}
+
+#[test]
+fn theirs_keeps_their_stamp() {
+    let settle = |source: &[u32], target: &mut [u32], row: u32, choice: u32, content: Content| {
+        let answer = (SECOND.settle)(source, target, row, choice, content);
+        if answer.number == 0 && choice == 1 {
+            put_stamp(source, target, row);
+        }
+        answer
+    };
+    found(Program { settle, ..SECOND }, Call::Settle, 2);
+}
+
+/// Settling by own with nothing but times, as if it were no act.
+fn settle_without_an_act(
+    source: &[u32],
+    target: &mut [u32],
+    row: u32,
+    choice: u32,
+    content: Content,
+) -> Answer {
+    let before = target.to_vec();
+    let answer = (SECOND.settle)(source, target, row, choice, content);
+    if answer.number != 0 || choice != 2 {
+        return answer;
+    }
+    put_stamp(&before, target, row);
+    target[head::COUNTER] = before[head::COUNTER];
+    done(0)
+}
+
+#[test]
+fn own_makes_no_stamp() {
+    let settle = settle_without_an_act;
+    found(Program { settle, ..SECOND }, Call::Settle, 2);
+}
+
+#[test]
+fn last_count_is_left_to_own() {
+    let settle = |source: &[u32], target: &mut [u32], row: u32, choice: u32, content: Content| {
+        let answer = (SECOND.settle)(source, target, row, choice, content);
+        match (answer.number, choice) {
+            (15, 2) => done(0),
+            _ => answer,
+        }
+    };
+    found(Program { settle, ..SECOND }, Call::Settle, 2);
+}
+
 #[test]
 fn devices_of_new_tables_end_at_7() {
     let new = |columns: u32, device: u32, plan: &[u32], table: &mut [u32]| match device {
@@ -527,6 +582,15 @@ fn settled_conflict_comes_back() {
     let run = smallest_run(Program { settle, ..SECOND });
     assert_eq!(run.plan, [2, 0], "{run}");
     assert!(run.starts.len() <= 3 && run.steps.len() <= 4, "{run}");
+}
+
+/// Settling by own is no event, and nobody hears of it.
+#[test]
+fn settlement_that_is_no_event() {
+    let settle = settle_without_an_act;
+    let run = smallest_run(Program { settle, ..SECOND });
+    assert_eq!(run.plan, [2, 0], "{run}");
+    assert!(run.starts.len() <= 2 && run.steps.len() <= 3, "{run}");
 }
 
 /// A copy leaves the class behind: no program says so, and no rule, but the event that gave it.

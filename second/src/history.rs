@@ -120,6 +120,25 @@ pub struct History {
     devices: Vec<Device>,
 }
 
+impl State {
+    /// The same by another event.
+    fn by(self, last: Event) -> State {
+        match self {
+            State::Never => State::Never,
+            State::Live { birth, .. } => State::Live { last, birth },
+            State::Removed { .. } => State::Removed { last },
+        }
+    }
+
+    /// The event that created it, if it is there.
+    fn birth(self) -> Option<Event> {
+        match self {
+            State::Live { birth, .. } => Some(birth),
+            State::Never | State::Removed { .. } => None,
+        }
+    }
+}
+
 impl Sheet {
     fn unused() -> Sheet {
         Sheet {
@@ -203,8 +222,8 @@ impl History {
             .collect()
     }
 
-    /// Settles a conflict on the target; gives the count of the new event, 0 if the choice makes none. `None`, and
-    /// nothing has happened, where there is no conflict.
+    /// Settles a conflict on the target, by an event that knows of both sides; gives its count. `None`, and nothing has
+    /// happened, where there is no conflict.
     pub fn settle(
         &mut self,
         source: usize,
@@ -215,17 +234,21 @@ impl History {
         if self.ruling(source, target, row) != Ruling::Conflict {
             return None;
         }
-        let theirs = self.sheet(source, row).state;
-        let count = match choice {
-            Choice::Theirs => {
-                self.sheet_mut(target, row).state = theirs;
-                0
-            }
-            Choice::Own => 0,
-            Choice::New => self.renew(target, row, theirs),
+        let [theirs, own] = [source, target].map(|device| self.sheet(device, row).state);
+        let last = self.devices[target].next_event(target);
+        let state = match choice {
+            Choice::Theirs => theirs.by(last),
+            Choice::Own => own.by(last),
+            Choice::New => State::Live {
+                last,
+                birth: own.birth().or(theirs.birth()).unwrap_or(last),
+            },
         };
         self.join(source, target, row);
-        Some(count)
+        let sheet = self.sheet_mut(target, row);
+        sheet.state = state;
+        sheet.taken.insert(last);
+        Some(last.count)
     }
 
     /// The first of the six rules that fits, with "in the set" for "covered".
@@ -278,19 +301,6 @@ impl History {
             self.join(source, target, row);
         }
         ruling
-    }
-
-    /// A new event on the target makes the sheet live. Its birth stays if it was live, and else is the source's.
-    fn renew(&mut self, target: usize, row: usize, theirs: State) -> u32 {
-        let last = self.devices[target].next_event(target);
-        let sheet = self.sheet_mut(target, row);
-        let birth = match (sheet.state, theirs) {
-            (State::Live { birth, .. }, _) | (_, State::Live { birth, .. }) => birth,
-            _ => last,
-        };
-        sheet.state = State::Live { last, birth };
-        sheet.taken.insert(last);
-        last.count
     }
 
     /// The target takes into account whatever the source has.

@@ -125,8 +125,7 @@ pub fn pass(source: &[u32], target: &mut [u32], row: u32, answers: &mut [u32]) -
     Answer::of(try_pass(source, target, row, answers))
 }
 
-/// Settles a conflict by theirs (1), own (2) or new (3); counts the new stamp, 0 if there is none. Theirs and own ignore
-/// mark and class.
+/// Settles a conflict by theirs (1), own (2) or new (3); counts the new stamp. Theirs and own ignore mark and class.
 pub fn settle(
     source: &[u32],
     target: &mut [u32],

@@ -149,7 +149,7 @@ pub fn find_conflict(source: &Table, target: &Table, row: usize) -> Result<(), R
     }
 }
 
-/// Settles the conflict at a sheet and gives the count of the new stamp, 0 if there is none.
+/// Settles the conflict at a sheet and gives the count of the new stamp.
 pub fn settle(
     source: &Table,
     target: &mut Table,
@@ -157,28 +157,24 @@ pub fn settle(
     choice: Choice,
 ) -> Result<u32, Refusal> {
     find_conflict(source, target, row)?;
-    let count = match choice {
-        Choice::Theirs => {
-            target.rows[row].take(&source.rows[row]);
-            0
-        }
-        Choice::Own => 0,
-        Choice::New(content) => renew(target, row, &source.rows[row], content)?,
-    };
+    let stamp = next_stamp(target)?;
+    let (theirs, sheet) = (&source.rows[row], &mut target.rows[row]);
+    match choice {
+        Choice::Theirs => sheet.take(theirs),
+        Choice::Own => (),
+        Choice::New(content) => renew(sheet, theirs, content),
+    }
+    sheet.stamp = stamp;
     times::raise(target, row, times::known(source, row));
     times::mend(target);
-    Ok(count)
+    Ok(stamp.count)
 }
 
-/// Makes a sheet live with a new stamp and the content given; its birth stays if it was live, and else is the source's.
-fn renew(target: &mut Table, row: usize, source: &Row, content: Content) -> Result<u32, Refusal> {
-    let stamp = next_stamp(target)?;
-    let sheet = &mut target.rows[row];
+/// Makes a sheet live with the content given; its birth stays if it was live, and else is theirs.
+fn renew(sheet: &mut Row, theirs: &Row, content: Content) {
     if sheet.kind != Kind::Live {
-        sheet.birth = source.birth;
+        sheet.kind = Kind::Live;
+        sheet.birth = theirs.birth;
     }
-    sheet.kind = Kind::Live;
-    sheet.stamp = stamp;
     sheet.content = content;
-    Ok(stamp.count)
 }

@@ -4,14 +4,6 @@ mod common;
 
 use common::*;
 
-/// What a row holds.
-fn content(table: &[u32], row: usize) -> Content {
-    Content {
-        mark: mark(table, row),
-        class: class(table, row),
-    }
-}
-
 fn of(mark: u32, class: u32) -> Content {
     Content { mark, class }
 }
@@ -20,7 +12,7 @@ fn of(mark: u32, class: u32) -> Content {
 fn copied(width: Width) -> Desk {
     let mut desk = Desk::fresh(width, 0..2, &PLAN);
     desk.event_with(0, 2, CREATE, of(700, 9));
-    assert_eq!(content(&desk.tables[0], 2), of(700, 9));
+    assert_eq!(content_of(&desk.tables[0], 2), of(700, 9));
     assert_eq!(desk.pass(0, 1, 0).0, [4, 4, 1, 0, 0]);
     desk
 }
@@ -37,7 +29,7 @@ fn in_conflict(width: Width) -> Desk {
 fn copy_carries_it() {
     for width in Width::BOTH {
         let desk = copied(width);
-        assert_eq!(content(&desk.tables[1], 2), of(700, 9));
+        assert_eq!(content_of(&desk.tables[1], 2), of(700, 9));
         assert_eq!(at(&desk.tables[1], 2, 7), 9);
     }
 }
@@ -49,7 +41,7 @@ fn change_gives_another() {
         for class in (0..=9).rev() {
             desk.event_with(0, 2, CHANGE, of(701, class));
             assert_eq!(desk.pass(0, 1, 0).0, [4, 4, 1, 0, 0]);
-            assert_eq!(content(&desk.tables[1], 2), of(701, class));
+            assert_eq!(content_of(&desk.tables[1], 2), of(701, class));
         }
     }
 }
@@ -59,9 +51,9 @@ fn removal_takes_it_away() {
     for width in Width::BOTH {
         let mut desk = copied(width);
         desk.event_with(0, 2, REMOVAL, of(5, 5));
-        assert_eq!(content(&desk.tables[0], 2), Content::NONE);
+        assert_eq!(content_of(&desk.tables[0], 2), Content::NONE);
         assert_eq!(desk.pass(0, 1, 0).0, [4, 4, 2, 0, 0]);
-        assert_eq!(content(&desk.tables[1], 2), Content::NONE);
+        assert_eq!(content_of(&desk.tables[1], 2), Content::NONE);
     }
 }
 
@@ -71,7 +63,7 @@ fn settling() {
         for (choice, expected) in [(THEIRS, of(701, 3)), (OWN, of(702, 4)), (NEW, of(5, 6))] {
             let mut desk = in_conflict(width);
             desk.settle_with(0, 1, 2, choice, of(5, 6));
-            assert_eq!(content(&desk.tables[1], 2), expected);
+            assert_eq!(content_of(&desk.tables[1], 2), expected);
         }
     }
 }
@@ -91,7 +83,7 @@ fn no_rule_reads_it() {
 fn widening_keeps_it() {
     let mut desk = copied(Width::Narrow);
     desk.widen(1);
-    assert_eq!(content(&desk.tables[1], 2), of(700, 9));
+    assert_eq!(content_of(&desk.tables[1], 2), of(700, 9));
 }
 
 #[test]

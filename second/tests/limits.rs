@@ -127,16 +127,20 @@ fn counter_has_an_end() {
 }
 
 #[test]
-fn full_counter_still_settles_without_a_stamp() {
+fn full_counter_settles_nothing() {
     for width in Width::BOTH {
-        for choice in [THEIRS, OWN] {
+        for choice in [THEIRS, OWN, NEW] {
             let mut desk = Desk::fresh(width, 0..2, &PLAN);
             desk.event(0, 2, CREATE, 1);
             desk.event(1, 2, CREATE, 2);
             desk.tables[1][head::COUNTER] = u32::MAX;
+            let before = desk.tables[1].clone();
             let (source, target) = pair(&mut desk.tables, 0, 1);
-            assert_eq!(second::settle(source, target, 2, NEW, 3, 0), refused(15));
-            assert_eq!(second::settle(source, target, 2, choice, 3, 0), done(0));
+            assert_eq!(second::settle(source, target, 2, choice, 3, 0), refused(15));
+            assert_eq!(target, before);
+            target[head::COUNTER] = u32::MAX - 1;
+            let answer = second::settle(source, target, 2, choice, 3, 0);
+            assert_eq!(answer, done(u32::MAX));
             assert_sound(target);
         }
     }

@@ -72,7 +72,7 @@ fn after_c(setting: Setting) -> Desk {
 /// D: device 1 settles own, and the conflict doesn't come back.
 fn after_d(setting: Setting) -> Desk {
     let mut desk = after_c(setting);
-    assert_eq!(desk.settle(0, 1, 2, OWN, 999), 0);
+    assert_eq!(desk.settle(0, 1, 2, OWN, 999), 2);
     assert_eq!(desk.pass(0, 1, 0), (vec![5, 5, 0, 0, 0], 1));
     desk
 }
@@ -102,8 +102,8 @@ fn before_k_last(setting: Setting) -> Desk {
     assert_eq!(desk.event(1, 2, CREATE, 20), 1);
     assert_eq!(desk.pass(1, 2, 0), (vec![4, 4, 1, 0, 0], 5));
     assert_eq!(desk.pass(0, 1, 0), (vec![4, 4, 3, 0, 0], 5));
-    assert_eq!(desk.settle(0, 1, 2, OWN, 0), 0);
-    assert_eq!(desk.pass(1, 2, 0), (vec![5, 5, 0, 0, 0], 1));
+    assert_eq!(desk.settle(0, 1, 2, OWN, 0), 2);
+    assert_eq!(desk.pass(1, 2, 0), (vec![4, 4, 1, 0, 0], 5));
     desk
 }
 
@@ -198,7 +198,7 @@ fn d_settled_conflict_does_not_come_back() {
         let desk = after_d(setting);
         let [zero, two] = [setting.counts(&[]), setting.counts(&[2])];
         assert_eq!(floors(&desk.tables[1]), [two, zero, two, two, two]);
-        assert_eq!(stamp(&desk.tables[1], 2), setting.stamp(1, 1));
+        assert_eq!(stamp(&desk.tables[1], 2), setting.stamp(1, 2));
         assert_eq!(birth(&desk.tables[1], 2), setting.stamp(0, 1));
         assert_eq!(mark(&desk.tables[1], 2), 702);
     }
@@ -209,8 +209,9 @@ fn e_settled_sheet_travels_back() {
     for setting in SETTINGS {
         let mut desk = after_d(setting);
         assert_eq!(desk.pass(1, 0, 0), (vec![4, 4, 1, 0, 0], 5));
-        let [zero, one] = [setting.counts(&[]), setting.counts(&[0, 1])];
-        assert_eq!(floors(&desk.tables[0]), [zero, zero, one, one, one]);
+        let [zero, two] = [setting.counts(&[]), setting.counts(&[0, 2])];
+        assert_eq!(floors(&desk.tables[0]), [zero, zero, two, two, two]);
+        assert_eq!(stamp(&desk.tables[0], 2), setting.stamp(1, 2));
         assert_eq!(mark(&desk.tables[0], 2), 702);
     }
 }
@@ -311,14 +312,15 @@ fn j_removal_is_carried_over() {
 fn k_what_the_sheets_know_travels_with_the_folder() {
     for setting in SETTINGS {
         let mut desk = before_k_last(setting);
-        assert_eq!(floor(&desk.tables[2], 0), setting.counts(&[1, 1]));
-        assert_eq!(desk.pass(0, 2, 0), (vec![5, 5, 0, 0, 0], 1));
         let [zero, one, both] = [
             setting.counts(&[]),
-            setting.counts(&[0, 1]),
-            setting.counts(&[1, 1]),
+            setting.counts(&[1]),
+            setting.counts(&[1, 2]),
         ];
-        assert_eq!(floors(&desk.tables[2]), [both, zero, one, one, one]);
+        assert_eq!(floors(&desk.tables[2]), [zero, zero, both, both, both]);
+        assert_eq!(stamp(&desk.tables[2], 2), setting.stamp(1, 2));
+        assert_eq!(desk.pass(0, 2, 0), (vec![5, 5, 0, 0, 0], 1));
+        assert_eq!(floors(&desk.tables[2]), [one, zero, both, both, both]);
     }
 }
 

@@ -150,7 +150,7 @@ fn sheet_removed_twice_comes_back_by_a_third_device() {
         assert_eq!(devices.sheet(1), (2, (1, 1)));
         assert_eq!(devices.pass(2, 1), COPY);
         assert_eq!(devices.pass(1, 0), COPY);
-        assert_eq!(devices.sheet(0), (1, (2, 1)));
+        assert_eq!(devices.sheet(0), (1, (2, 2)));
         assert_eq!(mark(&devices.desk.tables[0], SHEET), 701);
     }
 }

@@ -199,6 +199,7 @@ impl Run {
             (NEW, Choice::New),
         ]);
         let content = self.some_content();
+        let own = content_of(&self.desk.tables[target], row);
         let Content { mark, class } = content;
         self.assert_ahead(source, target, row);
         let (source_words, target_words) = pair(&mut self.desk.tables, source, target);
@@ -206,8 +207,13 @@ impl Run {
         let said = self.history.settle(source, target, row, choice);
         assert_eq!(answer, said.map_or(refused(14), done));
         tally.settlings += u32::from(said.is_some());
-        if answer.count > 0 {
-            self.contents.insert((target as u32, answer.count), content);
+        if said.is_some() {
+            let settled = match choice {
+                Choice::Theirs => content_of(&self.desk.tables[source], row),
+                Choice::Own => own,
+                Choice::New => content,
+            };
+            self.contents.insert((target as u32, answer.count), settled);
         }
         assert_sound(&self.desk.tables[target]);
         self.assert_agreed(target);
@@ -248,10 +254,7 @@ impl Run {
                 "birth of row {row}"
             );
 
-            let holds = Content {
-                mark: mark(table, row),
-                class: class(table, row),
-            };
+            let holds = content_of(table, row);
             let given = match sheet.state {
                 State::Live { .. } => self.contents[&stamp(table, row)],
                 State::Never | State::Removed { .. } => Content::NONE,

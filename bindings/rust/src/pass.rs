@@ -99,14 +99,14 @@ impl Passed {
     }
 }
 
-/// How a conflict is settled.
+/// How a conflict is settled. Whichever it is, the target's sheet has a new stamp.
 #[derive(Clone, Copy, Debug, PartialEq, Eq, Hash)]
 pub enum Choice {
     /// The target takes the source's sheet, or its removal.
     Theirs,
     /// The target's sheet, or its removal, stays.
     Own,
-    /// The target's sheet is live, with a new stamp, and holds this.
+    /// The target's sheet is live and holds this.
     New(Content),
 }
 
@@ -166,8 +166,7 @@ pub fn pass(source: &Table, target: &mut Table, row: usize) -> Result<Passed, Re
     })
 }
 
-/// Settles a conflict in the target, so that it does not come back. Gives the count of the new stamp, if the choice
-/// makes one.
+/// Settles a conflict in the target, so that it does not come back. Gives the count of the new stamp.
 ///
 /// ```
 /// use kettleflock::{pass, settle, Choice, Columns, Content, Plan, Table};
@@ -181,21 +180,40 @@ pub fn pass(source: &Table, target: &mut Table, row: usize) -> Result<Passed, Re
 /// let conflicts: Vec<usize> = pass(&desk, &mut tablet, 0)?.conflicts().collect();
 /// assert_eq!(conflicts, [1]);
 /// let new = Choice::New(Content { mark: 30, class: 0 });
-/// assert_eq!(settle(&desk, &mut tablet, 1, new)?, Some(2));
+/// assert_eq!(settle(&desk, &mut tablet, 1, new)?, 2);
 /// assert_eq!(pass(&desk, &mut tablet, 0)?.conflicts().count(), 0);
+/// # Ok::<(), kettleflock::Refusal>(())
+/// ```
+///
+/// Two settlements of one conflict that don't know of each other are a conflict again:
+///
+/// ```
+/// use kettleflock::{pass, settle, Choice, Columns, Content, Plan, Table};
+///
+/// let plan = Plan::folder([Plan::sheet()]);
+/// let mut desk = Table::new(Columns::Eight, 0, &plan)?;
+/// let mut tablet = Table::new(Columns::Eight, 1, &plan)?;
+/// desk.create(1, Content { mark: 10, class: 0 })?;
+/// tablet.create(1, Content { mark: 20, class: 0 })?;
+///
+/// let before = tablet.clone();
+/// settle(&desk, &mut tablet, 1, Choice::Own)?;
+/// settle(&before, &mut desk, 1, Choice::Own)?;
+/// assert_eq!(pass(&desk, &mut tablet, 0)?.conflicts().count(), 1);
 /// # Ok::<(), kettleflock::Refusal>(())
 /// ```
 ///
 /// # Errors
 ///
 /// Those of [`pass`]; there is no such class ([`Refusal::NoSuchClass`]) or no mark ([`Refusal::NoMark`]) for a new sheet; the
-/// row is a folder ([`Refusal::Unfit`]); the rules don't say conflict there ([`Refusal::NoConflict`]); a new stamp is needed and the device has no next count ([`Refusal::CounterFull`]).
+/// row is a folder ([`Refusal::Unfit`]); the rules don't say conflict there ([`Refusal::NoConflict`]); the device has no
+/// next count ([`Refusal::CounterFull`]).
 pub fn settle(
     source: &Table,
     target: &mut Table,
     row: usize,
     choice: Choice,
-) -> Result<Option<u32>, Refusal> {
+) -> Result<u32, Refusal> {
     let (choice, content) = match choice {
         Choice::Theirs => (1, Content::IGNORED),
         Choice::Own => (2, Content::IGNORED),
@@ -209,8 +227,7 @@ pub fn settle(
         content.mark,
         content.class,
     );
-    let count = succeed(answer)?;
-    Ok((count > 0).then_some(count))
+    succeed(answer)
 }
 
 /// The row that stands if the source is passed to the target. Nothing is changed.

@@ -39,7 +39,7 @@ pub struct Masks {
 }
 
 /// The version of the library that this crate belongs to, as [`version`] gives it.
-pub const VERSION: u32 = 6;
+pub const VERSION: u32 = 7;
 
 mod exports {
     use super::{Answer, Masks};
@@ -185,8 +185,7 @@ pub fn pass(source: &[u32], target: &mut [u32], row: u32, answers: &mut [u32]) -
     }
 }
 
-/// Settles a conflict by theirs (1), own (2) or new (3); counts the new stamp, 0 if there is none. Theirs and own ignore
-/// mark and class.
+/// Settles a conflict by theirs (1), own (2) or new (3); counts the new stamp. Theirs and own ignore mark and class.
 pub fn settle(
     source: &[u32],
     target: &mut [u32],

@@ -261,6 +261,27 @@ fn no_live_sheet_without_a_mark() {
 }
 
 #[test]
+fn no_settling_after_the_last_count() {
+    for columns in WIDTHS {
+        let (mut desk, mut tablet) = (table(columns, 0), table(columns, 1));
+        assert_eq!(desk.create(2, marked(1)), Ok(1));
+        assert_eq!(tablet.create(2, marked(2)), Ok(1));
+        let counted = |count| {
+            let words = damaged(&tablet, head::COUNTER, count);
+            Table::from_words(words).expect("a sound table")
+        };
+        for choice in [Choice::Theirs, Choice::Own, Choice::New(marked(3))] {
+            let mut full = counted(u32::MAX);
+            let settled = settle(&desk, &mut full, 2, choice);
+            assert_eq!(settled, Err(Refusal::CounterFull));
+            assert_eq!(full, counted(u32::MAX));
+            let mut last = counted(u32::MAX - 1);
+            assert_eq!(settle(&desk, &mut last, 2, choice), Ok(u32::MAX));
+        }
+    }
+}
+
+#[test]
 fn two_tables() {
     let mut target = narrow(1);
     let other_tree = Table::new(Columns::Eight, 0, &Plan::folder([])).expect("a sound plan");

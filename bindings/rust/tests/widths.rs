@@ -93,10 +93,7 @@ fn a_run_goes_on_from_wide_tables_as_from_narrow_ones() {
     assert_eq!((who.source.mask(), who.target.mask()), (0b01, 0b10));
     assert_eq!(ahead(&wide_desk, &wide_tablet, 2), Ok(who));
     for (source, target) in [(&desk, &mut tablet), (&wide_desk, &mut wide_tablet)] {
-        assert_eq!(
-            settle(source, target, 2, Choice::New(marked(703))),
-            Ok(Some(2))
-        );
+        assert_eq!(settle(source, target, 2, Choice::New(marked(703))), Ok(2));
     }
     assert_eq!(widened(&tablet), wide_tablet);
 }

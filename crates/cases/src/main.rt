@@ -37,6 +37,7 @@ fn main() {
     settled(NEW, CHANGE, 702, 3);
     settled(REMOVED, REMOVE, 0, 3);
     settlings::refused();
+    settlings::opposite();
     ahead::told();
     removals::held();
     removals::back();

@@ -14,7 +14,7 @@ use Rattle.paper.specs.declared.Clock.{Clock}
 use Rattle.paper.specs.declared.Content.{Content}
 use Rattle.paper.specs.Columns.{Vec, zeros, greatest, column, full, covers}
 use Rattle.paper.specs.Rules.{Cell, ruling}
-use Rattle.paper.specs.Acts.{Event, eventRow, Choice, stamps, settleRow}
+use Rattle.paper.specs.Acts.{Event, eventRow, Choice, settleRow}
 use Rattle.paper.specs.Tree.{end, sheet, folder, mapped, size, subtree, graft, sheetHere, Sheet, Tree, above, later}
 use Rattle.paper.specs.Walk.{Two, left, right, cell, walk, answers}
 use Rattle.paper.specs.Order.{wordsOf}
@@ -178,34 +178,24 @@ module _ (w : ℕ) (b : Table) (row : ℕ) (e : Event) (m : Content) (g : GoodTa
 
 -- A SETTLING
 module _ (w : ℕ) (a b : Table) (row : ℕ) (c : Choice) (m : Content) (g : Two-good w a b row) (x : Two Sheet) (alone : pairAt a b row ≡ sheet x end) where
-  -- b's counter afterwards
-  abbrev pub counted : ℕ
-  counted = cond (stamps c) (suc (b .clock .counter)) (b .clock .counter)
-
-  settle-table : settleDone a b row c m ≡ record {
-    clock = record { device = b .clock .device; counter = counted };
-    tree = graft (b .tree) row (sheet (settleSheet (a .clock) (b .clock) (above (a .tree) row) c m x) end);
-  }
+  settle-table : settleDone a b row c m ≡ record { clock = ticked (b .clock); tree = graft (b .tree) row (sheet (settleSheet (a .clock) (b .clock) (above (a .tree) row) c m x) end) }
   unfolding settleDone
-  settle-table = ap₂ (λ k t. record { clock = k; tree = t }) (clock (stamps c)) (settle-tree w a b row c m g x alone)
-    where
-      clock : (t : Bool) → cond t (ticked (b .clock)) (b .clock) ≡ record { device = b .clock .device; counter = cond t (suc (b .clock .counter)) (b .clock .counter) }
-      clock true = refl
-      clock false = refl
+  settle-table = ap (λ t. record { clock = ticked (b .clock); tree = t }) (settle-tree w a b row c m g x alone)
 
-  pub settle-there : (i : ℕ) → eqb i row ≡ false → cellAt (settleDone a b row c m) i ≡ Option·map (reset (record { device = b .clock .device; counter = counted })) (cellAt b i)
+  pub settle-there : (i : ℕ) → eqb i row ≡ false → cellAt (settleDone a b row c m) i ≡ Option·map (reset (ticked (b .clock))) (cellAt b i)
   settle-there i ne =
-      ap (λ t. cellAt t i) settle-table ∙ one-there b row counted (x .b) (settleSheet (a .clock) (b .clock) (above (a .tree) row) c m x) (g .here) (alone-right w a b row c m g x alone) i ne
+      ap (λ t. cellAt t i) settle-table
+      ∙ one-there b row (suc (b .clock .counter)) (x .b) (settleSheet (a .clock) (b .clock) (above (a .tree) row) c m x) (g .here) (alone-right w a b row c m g x alone) i ne
 
-  -- b knows what it knew, with its counter as it is now, and what a knew
+  -- b knows what it knew, its new stamp, and what a knew
   pub settle-here : cellAt (settleDone a b row c m) row ≡ some (record {
     row = settleRow c (newStamp (b .clock)) m (x .a .row) (x .b .row);
-    known = greatest (full (a .clock) (above (a .tree) row) (x .a .floor)) (column (b .clock .device) counted (full (b .clock) (above (b .tree) row) (x .b .floor)));
+    known = greatest (full (a .clock) (above (a .tree) row) (x .a .floor)) (column (b .clock .device) (suc (b .clock .counter)) (full (b .clock) (above (b .tree) row) (x .b .floor)));
   })
   unfolding settleSheet mapped
   settle-here =
       ap (λ t. cellAt t row) settle-table
-      ∙ one-here b row counted (x .b) (settleSheet (a .clock) (b .clock) (above (a .tree) row) c m x) (g .here) (alone-right w a b row c m g x alone)
+      ∙ one-here b row (suc (b .clock .counter)) (x .b) (settleSheet (a .clock) (b .clock) (above (a .tree) row) c m x) (g .here) (alone-right w a b row c m g x alone)
       ∙ ap (λ k. some (record { row = settleRow c (newStamp (b .clock)) m (x .a .row) (x .b .row); known = k })) (fun-ext (λ j. go j (eqb j (b .clock .device)) refl))
     where
       early : full (a .clock) (above (a .tree) row) (x .a .floor) (b .clock .device) ≤ b .clock .counter
@@ -213,14 +203,10 @@ module _ (w : ℕ) (a b : Table) (row : ℕ) (c : Choice) (m : Content) (g : Two
           full-early (a .clock) (b .clock) (g .apart) (above (a .tree) row) (x .a .floor) (above-early w a b row g)
           (later-sheet (b .clock) (x .a) end (sym (ap (λ p. later (b .clock) (left p)) alone) ∙ source-early w a b row g) .0)
 
-      more : (t : Bool) → b .clock .counter ≤ cond t (suc (b .clock .counter)) (b .clock .counter)
-      more true = omega arith
-      more false = omega arith
-
       go : (j : ℕ) (t : Bool) → eqb j (b .clock .device) ≡ t
-          → cond t counted (max (above (b .tree) row j) (cond t 0 (max (x .b .floor j) (full (a .clock) (above (a .tree) row) (x .a .floor) j))))
-          ≡ max (full (a .clock) (above (a .tree) row) (x .a .floor) j) (cond t counted (cond t (b .clock .counter) (max (above (b .tree) row j) (x .b .floor j))))
-      go j true e = omega (arith, early, more (stamps c), ap (full (a .clock) (above (a .tree) row) (x .a .floor)) (eqb-true j (b .clock .device) e))
+          → cond t (suc (b .clock .counter)) (max (above (b .tree) row j) (cond t 0 (max (x .b .floor j) (full (a .clock) (above (a .tree) row) (x .a .floor) j))))
+          ≡ max (full (a .clock) (above (a .tree) row) (x .a .floor) j) (cond t (suc (b .clock .counter)) (cond t (b .clock .counter) (max (above (b .tree) row j) (x .b .floor j))))
+      go j true e = omega (arith, early, ap (full (a .clock) (above (a .tree) row) (x .a .floor)) (eqb-true j (b .clock .device) e))
       go j false e = omega arith
 
 -- the head of a table's words

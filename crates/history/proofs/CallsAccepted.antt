@@ -3,7 +3,7 @@
 use Prim.{tt}
 use Prim.Native.Nat.{ℕ, suc, _≤_, _<_}
 use mathlib.Core.Path.{_≡_, refl, sym, ap, _∙_, subst}
-use mathlib.Core.Bool.{Bool, true, false, cond, false≢true}
+use mathlib.Core.Bool.{true, false, false≢true}
 use mathlib.Core.List.{List}
 use mathlib.Core.Option.{Option, none, some, Option·map}
 use native.Mathlib.Omega.{arith}
@@ -14,7 +14,7 @@ use Rattle.paper.specs.declared.Content.{Content}
 use Rattle.paper.specs.declared.Ruling.the-variants.{KeepOwn, KeepTheirs, Copy, Remove, Conflict}
 use Rattle.paper.specs.Columns.{zeros, greatest, Narrow}
 use Rattle.paper.specs.Rules.{ruling}
-use Rattle.paper.specs.Acts.{Event, fits, Choice, stamps, takesContent, choiceTakes}
+use Rattle.paper.specs.Acts.{Event, fits, Choice, takesContent, choiceTakes}
 use Rattle.paper.specs.Tree.{Forest, end, sheet, mapped, size, levels, subtree, graft, sheetHere, shaped, Sheet, above, later}
 use Rattle.paper.specs.Walk.{Two, zip, left, right, ruleAt, walk, answers, looked}
 use Rattle.paper.specs.Words.{Table, tableOf, written}
@@ -222,7 +222,7 @@ pub record Settle-accepted (w : ℕ) (a b : Table) (row choice : ℕ) (content :
   pub may : choiceTakes (choiceNamed choice) ≡ true → contentFits content ≡ true
   pub done : out ≡ record {
     number = 0;
-    count = cond (stamps (choiceNamed choice)) (suc (b .clock .counter)) 0;
+    count = suc (b .clock .counter);
     table = written w (settleDone a b row (choiceNamed choice) content);
   }
 
@@ -291,13 +291,9 @@ module _ (w : ℕ) (a b : Table) (row : ℕ) (c : Choice) (m : Content) (g : Two
       → GoodTable w (settleDone a b row c m)
   unfolding mapped ruleAt ruling
   settle-table-good q may =
-      changed-good w b (settleDone a b row c m) (g .target) (unfold settleDone in (device (stamps c))) settle-shape
+      changed-good w b (settleDone a b row c m) (g .target) (unfold settleDone in refl) settle-shape
       (subst (λ t. Good w (settleDone a b row c m .clock) t zeros) (sym settle-tree) (unfold settleDone in rows))
     where
-      device : (t : Bool) → cond t (ticked (b .clock)) (b .clock) .device ≡ b .clock .device
-      device true = refl
-      device false = refl
-
       both-good : GoodSheet w (a .clock) (above (a .tree) row) (x .a) × GoodSheet w (b .clock) (above (b .tree) row) (x .b)
       both-good = (
         (subst (λ p. Good w (a .clock) (left p) (above (a .tree) row)) alone (source-good w a b row g)) .0,
@@ -310,14 +306,11 @@ module _ (w : ℕ) (a b : Table) (row : ℕ) (c : Choice) (m : Content) (g : Two
       kinds : Opposed (x .a .row .kind) (x .b .row .kind)
       kinds = opposed (x .a .row .kind) (x .b .row .kind) _ q
 
-      tick : (t : Bool) → Good w (cond t (ticked (b .clock)) (b .clock)) (b .tree) zeros
-      tick true = tick-good w (b .clock) (g .target .device) (b .tree) zeros (g .target .rows)
-      tick false = g .target .rows
-
-      rows : Good w (cond (stamps c) (ticked (b .clock)) (b .clock)) (graft (b .tree) row (sheet (settleSheet (a .clock) (b .clock) (above (a .tree) row) c m x) end)) zeros
+      rows : Good w (ticked (b .clock)) (graft (b .tree) row (sheet (settleSheet (a .clock) (b .clock) (above (a .tree) row) c m x) end)) zeros
       rows =
-          good-graft w (cond (stamps c) (ticked (b .clock)) (b .clock)) (b .tree) row (sheet (settleSheet (a .clock) (b .clock) (above (a .tree) row) c m x) end) zeros (tick (stamps c)) (
-            subst (λ u. GoodSheet w (cond (stamps c) (ticked (b .clock)) (b .clock)) u (settleSheet (a .clock) (b .clock) (above (a .tree) row) c m x)) (sym (zeros-greatest (above (b .tree) row)))
+          good-graft w (ticked (b .clock)) (b .tree) row (sheet (settleSheet (a .clock) (b .clock) (above (a .tree) row) c m x) end) zeros
+          (tick-good w (b .clock) (g .target .device) (b .tree) zeros (g .target .rows)) (
+            subst (λ u. GoodSheet w (ticked (b .clock)) u (settleSheet (a .clock) (b .clock) (above (a .tree) row) c m x)) (sym (zeros-greatest (above (b .tree) row)))
                 (settle-good w (a .clock) (b .clock) (g .source .device) (g .target .device) (g .apart) (above (a .tree) row) (above (b .tree) row) x (both-good .0) (both-good .1)
                 (above-narrow w a b row g) (above-early w a b row g) early c m kinds may),
             tt,

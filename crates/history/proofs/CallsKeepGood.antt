@@ -1,5 +1,5 @@
 -- Good trees stay good: under a walk, an event and a settling. This is what refusals 5 and 6 are for.
-use Prim.{tt}
+use Prim.{Unit, tt}
 use Prim.Native.Nat.{ℕ, suc, _≤_, _<_, max}
 use mathlib.Core.Path.{_≡_, refl, ap}
 use mathlib.Core.Bool.{Bool, true, false, cond, false≢true}
@@ -13,7 +13,7 @@ use Rattle.paper.specs.declared.Ruling.{Ruling}
 use Rattle.paper.specs.declared.Ruling.the-variants.{KeepOwn, KeepTheirs, Copy, Remove, Conflict}
 use Rattle.paper.specs.Columns.{Vec, greatest, full, covers, Narrow}
 use Rattle.paper.specs.Rules.{Kind, never, live, removed, Row}
-use Rattle.paper.specs.Acts.{Event, creates, changes, removes, isLive, fits, takesContent, eventRow, Choice, theirs, own, new, stamps, choiceTakes, settleRow}
+use Rattle.paper.specs.Acts.{Event, creates, changes, removes, isLive, fits, takesContent, eventRow, Choice, theirs, own, new, choiceTakes, settleRow, withStamp}
 use Rattle.paper.specs.Tree.{end, sheet, folder, mapped, Sheet, Tree, later, least, fullLeast}
 use Rattle.paper.specs.Walk
 use Rattle.paper.specs.Walk.{Two, Pair, left, right, raised, ruleAt, over, walk}
@@ -198,20 +198,58 @@ has-birth w v never r x y = tt
 has-birth w v live r x y = (and-both _ _ (and-both (proper w (r .stamp)) _ x .1) .0, and-both (covers v (r .stamp)) _ y .1)
 has-birth w v removed r x y = tt
 
+-- of this kind a row has a stamp
+abbrev Stood : Kind → Type 0
+Stood never = ⊥
+Stood live = Unit {0}
+Stood removed = Unit {0}
+
+-- as two opposed rows have
+opposed-stood : (ka kb : Kind) → Opposed ka kb → Stood ka × Stood kb
+opposed-stood never kb o = absurd o
+opposed-stood live never o = absurd o
+opposed-stood live live o = (tt, tt)
+opposed-stood live removed o = (tt, tt)
+opposed-stood removed never o = absurd o
+opposed-stood removed live o = (tt, tt)
+opposed-stood removed removed o = absurd o
+
+-- a good row that has a stamp stays good with another one that is proper and covered
+restamped : (w : ℕ) (v : Vec) (s : Stamp) → proper w s ≡ true → covers v s ≡ true → (k : Kind) (r : Row) → Stood k → laid w k r ≡ true → known v k r ≡ true
+    → (laid w k (withStamp s r) ≡ true) × (known v k (withStamp s r) ≡ true)
+unfolding laid known
+restamped w v s p q never r o x y = absurd o
+restamped w v s p q live r o x y = (both-and p (and-both (proper w (r .stamp)) _ x .1), both-and q (and-both (covers v (r .stamp)) _ y .1))
+restamped w v s p q removed r o x y = (both-and p (and-both (proper w (r .stamp)) _ x .1), q)
+
 -- A SETTLING of two opposed sheets
 module _ (w : ℕ) (a b : Clock) (la : a .device < w) (lb : b .device < w) (apart : a .device ≡ b .device → ⊥) (ua ub : Vec) (x : Two Sheet)
     (ga : GoodSheet w a ua (x .a)) (gb : GoodSheet w b ub (x .b)) (nu : Narrow w ua) (hu : ua (b .device) ≤ b .counter) (hx : x .a .floor (b .device) ≤ b .counter) where
+  -- B's floor, raised as after keep
+  abbrev f : Vec
+  f = raised b (x .b .floor) (full a ua (x .a .floor))
+
+  -- either row, its floor raised and the clock gone up
+  theirs-up : GoodSheet w (ticked b) ub (record { row = x .a .row; floor = f })
+  theirs-up = tick-sheet w b lb ub (record { row = x .a .row; floor = f }) (taken w a b la lb apart ua ub x ga gb nu hu hx)
+
+  own-up : GoodSheet w (ticked b) ub (record { row = x .b .row; floor = f })
+  own-up = tick-sheet w b lb ub (record { row = x .b .row; floor = f }) (stays w a b la lb apart ua ub x ga gb nu hu hx)
+
+  -- stays good with the new stamp
+  anew : (r : Row) → Stood (r .kind) → GoodSheet w (ticked b) ub (record { row = r; floor = f }) → GoodSheet w (ticked b) ub (record { row = withStamp (newStamp b) r; floor = f })
+  anew r o g =
+      let y = restamped w (full (ticked b) ub f) (newStamp b) (new-proper w b lb) (new-known w b lb ub f) (r .kind) r o (g .laid) (g .known) in
+      record { floor = g .floor; laid = y .0; known = y .1 }
+
   -- by theirs, by own, and by a new row with a birth of one of them
   pub settle-good : (c : Choice) (m : Content) → Opposed (x .a .row .kind) (x .b .row .kind) → (choiceTakes c ≡ true → contentFits m ≡ true)
-      → GoodSheet w (cond (stamps c) (ticked b) b) ub (settleSheet a b ua c m x)
-  unfolding settleSheet settleRow stamps laid known
-  settle-good theirs m o may = taken w a b la lb apart ua ub x ga gb nu hu hx
-  settle-good own m o may = stays w a b la lb apart ua ub x ga gb nu hu hx
+      → GoodSheet w (ticked b) ub (settleSheet a b ua c m x)
+  unfolding settleSheet settleRow laid known
+  settle-good theirs m o may = anew (x .a .row) (opposed-stood (x .a .row .kind) (x .b .row .kind) o .0) theirs-up
+  settle-good own m o may = anew (x .b .row) (opposed-stood (x .a .row .kind) (x .b .row .kind) o .1) own-up
   settle-good new m o may =
-      let f = raised b (x .b .floor) (full a ua (x .a .floor)) in
-      let t = tick-sheet w b lb ub (record { row = x .a .row; floor = f }) (taken w a b la lb apart ua ub x ga gb nu hu hx) in
-      let s = tick-sheet w b lb ub (record { row = x .b .row; floor = f }) (stays w a b la lb apart ua ub x ga gb nu hu hx) in
       let n = new-born (Birth w (full (ticked b) ub f)) (x .a .row .kind) (x .b .row .kind) (x .a .row) (x .b .row) o
-      (has-birth w (full (ticked b) ub f) (x .a .row .kind) (x .a .row) (t .laid) (t .known))
-      (has-birth w (full (ticked b) ub f) (x .b .row .kind) (x .b .row) (s .laid) (s .known)) in
-      record { floor = s .floor; laid = both-and (new-proper w b lb) (both-and (n .0) (may refl)); known = both-and (new-known w b lb ub f) (n .1) }
+      (has-birth w (full (ticked b) ub f) (x .a .row .kind) (x .a .row) (theirs-up .laid) (theirs-up .known))
+      (has-birth w (full (ticked b) ub f) (x .b .row .kind) (x .b .row) (own-up .laid) (own-up .known)) in
+      record { floor = own-up .floor; laid = both-and (new-proper w b lb) (both-and (n .0) (may refl)); known = both-and (new-known w b lb ub f) (n .1) }

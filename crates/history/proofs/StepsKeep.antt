@@ -15,7 +15,7 @@ use Rattle.paper.specs.declared.Content.{Content}
 use Rattle.paper.specs.declared.Ruling.the-variants.{Conflict}
 use Rattle.paper.specs.Columns.{Vec, zeros, greatest, column, full, covers}
 use Rattle.paper.specs.Rules.{Row, Cell, ruling}
-use Rattle.paper.specs.Acts.{fits, eventRow, Choice, stamps, settleRow}
+use Rattle.paper.specs.Acts.{fits, eventRow, Choice, settleRow}
 use Rattle.paper.specs.Tree.{Forest, end, sheet, subtree, above}
 use Rattle.paper.specs.Walk.{cell, ruleAt, walk}
 use Rattle.paper.specs.Words.{Table, written}
@@ -34,7 +34,7 @@ use Rattle.history.proofs.WorldsAgree.{event-inv, pass-inv, settle-inv}
 use Rattle.history.proofs.CountersAhead.{Early, early-any, early-subtree, early-graft, early-above, full-made, raised-made, walk-early}
 use Rattle.history.proofs.CallsAccepted.{Two-good, pair-left, pair-right, Pass-accepted, pass-shape, passed-good, Event-accepted, event-tree}
 use Rattle.history.proofs.CallsAccepted.{event-shape, event-table-good, Settle-accepted, alone-left, alone-right, settle-tree, settle-shape, settle-table-good}
-use Rattle.history.proofs.CallEffects.{reset, pass-inside, pass-before, pass-after, event-here, event-there, one-before, counted, settle-here, settle-there}
+use Rattle.history.proofs.CallEffects.{reset, pass-inside, pass-before, pass-after, event-here, event-there, one-before, settle-here, settle-there}
 use Rattle.history.proofs.RunInvariant.{put-there, put-here, put-away, tick-there, tick-here, Holds, holds-map, holds-both, Kept, there, changed, held}
 
 module _ (p : Forest (Unit {0}) (Unit {0})) (s : State) (k : Kept p s) where
@@ -227,34 +227,14 @@ module _ (p : Forest (Unit {0}) (Unit {0})) (s : State) (k : Kept p s) where
     a-not-b : eqb a b ≡ false
     a-not-b = ne-eqb a b (λ e. g₂ .apart (k .device a aw₂ ∙ e ∙ sym (k .device b bw₂)))
 
-    -- b's counter afterwards
-    abbrev n : ℕ
-    n = counted w (T a) (T b) row c content g₂ (acc .sheets) (acc .alone)
-
+    -- b has made its next event
     abbrev moved : World Vec
-    moved = cond (stamps c) (tick vectors (k .flat) b row) (k .flat)
+    moved = tick vectors (k .flat) b row
 
-    moved-a : (y : ℕ) → moved .cell a y ≡ k .flat .cell a y
-    moved-a y = go (stamps c)
-      where
-        go : (t : Bool) → cond t (tick vectors (k .flat) b row) (k .flat) .cell a y ≡ k .flat .cell a y
-        go true = tick-there vectors (k .flat) b row a y a-not-b
-        go false = refl
-
-    own-column : (y : ℕ) → reset (T b .clock) (k .flat .cell b y) ≡ k .flat .cell b y
-    own-column y = ap (λ x. record { row = k .flat .cell b y .row; known = x }) (fun-ext (λ j. go j (eqb j (T b .clock .device)) refl))
-      where
-        go : (j : ℕ) (t : Bool) → eqb j (T b .clock .device) ≡ t → cond t (T b .clock .counter) (k .flat .cell b y .known j) ≡ k .flat .cell b y .known j
-        go j true e = sym (ap (k .flat .cell b y .known) (eqb-true j (T b .clock .device) e ∙ k .device b bw₂) ∙ k .inv .cells b y .own ∙ k .counts b)
-        go j false e = refl
-
-    moved-b : (y : ℕ) → moved .cell b y ≡ record { row = k .flat .cell b y .row; known = column (T b .clock .device) n (k .flat .cell b y .known) }
-    moved-b y = go (stamps c)
-      where
-        go : (t : Bool) → cond t (tick vectors (k .flat) b row) (k .flat) .cell b y
-            ≡ record { row = k .flat .cell b y .row; known = column (T b .clock .device) (cond t (suc (T b .clock .counter)) (T b .clock .counter)) (k .flat .cell b y .known) }
-        go true = tick-here vectors (k .flat) b row y ∙ ap (λ (m : Stamp). record { row = k .flat .cell b y .row; known = column (m .device) (m .count) (k .flat .cell b y .known) }) (next-stamp b bw₂)
-        go false = sym (own-column y)
+    moved-b : (y : ℕ) → moved .cell b y ≡ reset (ticked (T b .clock)) (k .flat .cell b y)
+    moved-b y =
+        tick-here vectors (k .flat) b row y
+        ∙ ap (λ (m : Stamp). record { row = k .flat .cell b y .row; known = column (m .device) (m .count) (k .flat .cell b y .known) }) (next-stamp b bw₂)
 
     before-a : cell (T a .clock) (above (T a .tree) row) (acc .sheets .a) ≡ k .flat .cell a row
     before-a = held p s k a row _ (one-before (T a) row (acc .sheets .a) (alone-left w (T a) (T b) row c content g₂ (acc .sheets) (acc .alone)))
@@ -271,23 +251,22 @@ module _ (p : Forest (Unit {0}) (Unit {0})) (s : State) (k : Kept p s) where
             subst (λ o. Holds o (settling vectors (k .flat) a b row c content .cell b row)) (sym (settle-here w (T a) (T b) row c content g₂ (acc .sheets) (acc .alone)))
             (ap₂ (λ (x : Cell Vec) (z : Cell Vec). record {
               row = settleRow c (newStamp (T b .clock)) content (x .row) (z .row);
-              known = greatest (x .known) (column (T b .clock .device) n (z .known));
+              known = greatest (x .known) (column (T b .clock .device) (suc (T b .clock .counter)) (z .known));
             }) before-a before-b
             ∙ ap (λ (m : Stamp). record {
               row = settleRow c m content (k .flat .cell a row .row) (k .flat .cell b row .row);
-              known = greatest (k .flat .cell a row .known) (column (T b .clock .device) n (k .flat .cell b row .known));
+              known = greatest (k .flat .cell a row .known) (column (T b .clock .device) (suc (T b .clock .counter)) (k .flat .cell b row .known));
             }) (sym (next-stamp b bw₂))
             ∙ sym (put-here vectors moved b (λ y. eqb y row) _ row (eq-eqb row row refl)
-            ∙ ap₂ (λ (x : Cell Vec) (z : Cell Vec). record { row = settleRow c (next vectors (k .flat) b) content (x .row) (z .row); known = greatest (x .known) (z .known) }) (moved-a row)
-            (moved-b row)))
+            ∙ ap₂ (λ (x : Cell Vec) (z : Cell Vec). record { row = settleRow c (next vectors (k .flat) b) content (x .row) (z .row); known = greatest (x .known) (z .known) })
+            (tick-there vectors (k .flat) b row a row a-not-b) (moved-b row)))
 
         go : (t : Bool) → eqb y row ≡ t → Holds (cellAt (settleDone (T a) (T b) row c content) y) (settling vectors (k .flat) a b row c content .cell b y)
         go true q = subst (λ n. Holds (cellAt (settleDone (T a) (T b) row c content) n) (settling vectors (k .flat) a b row c content .cell b n)) (sym (eqb-true y row q)) at-row
         go false q =
             subst (λ o. Holds o (settling vectors (k .flat) a b row c content .cell b y)) (sym (settle-there w (T a) (T b) row c content g₂ (acc .sheets) (acc .alone) y q))
-            (subst (Holds (Option·map (reset (record { device = T b .clock .device; counter = n })) (cellAt (T b) y))) (sym (put-away vectors moved b (λ y. eqb y row) _ y q ∙ moved-b y))
-            (holds-map (reset (record { device = T b .clock .device; counter = n })) (reset (record { device = T b .clock .device; counter = n })) (cellAt (T b) y) (k .flat .cell b y)
-            (λ x z. ap (reset (record { device = T b .clock .device; counter = n })) z) (k .holds b y)))
+            (subst (Holds (Option·map (reset (ticked (T b .clock))) (cellAt (T b) y))) (sym (put-away vectors moved b (λ y. eqb y row) _ y q ∙ moved-b y))
+            (holds-map (reset (ticked (T b .clock))) (reset (ticked (T b .clock))) (cellAt (T b) y) (k .flat .cell b y) (λ x z. ap (reset (ticked (T b .clock))) z) (k .holds b y)))
 
     settle-early : Early counter (settleDone (T a) (T b) row c content .tree) zeros
     unfolding settleSheet
@@ -313,56 +292,26 @@ module _ (p : Forest (Unit {0}) (Unit {0})) (s : State) (k : Kept p s) where
     unfolding ruleAt
     conflict-past = sym (rulings (k .inv .cells a row) (k .inv .cells b row)) ∙ ap₂ (ruling covers) (sym before-a) (sym before-b) ∙ acc .conflict
 
-    settle-count : (x : ℕ) → settling vectors (k .flat) a b row c content .count x ≡ moved .count x
-    unfolding settling put
+    settle-count : (x : ℕ) → settling vectors (k .flat) a b row c content .count x ≡ cond (eqb x b) (suc (k .flat .count x)) (k .flat .count x)
+    unfolding settling put tick
     settle-count x = refl
 
     pub settle-kept : Kept p (record { tables = replaced (s .tables) b (written w (settleDone (T a) (T b) row c content)); past = settling sets (s .past) a b row c content })
     settle-kept =
         changed p s k w wide b bw₂ (settleDone (T a) (T b) row c content) (settle-table-good w (T a) (T b) row c content g₂ (acc .sheets) (acc .alone) (acc .conflict) (acc .may))
         (same-device ∙ k .device b bw₂)
-        (settle-shape w (T a) (T b) row c content g₂ (acc .sheets) (acc .alone) ∙ k .shapes b bw₂) grows settle-early
-        (settling vectors (k .flat) a b row c content) _ (settle-count b ∙ count-b) (λ x q. settle-count x ∙ count-x x q (stamps c)) settle-holds there-same
+        (settle-shape w (T a) (T b) row c content g₂ (acc .sheets) (acc .alone) ∙ k .shapes b bw₂) (omega (arith, same-count)) settle-early
+        (settling vectors (k .flat) a b row c content) _ (settle-count b ∙ rw (eq-eqb b b refl) (ap suc (k .counts b) ∙ sym same-count)) (λ x q. settle-count x ∙ rw q) settle-holds there-same
         (settle-inv (k .inv) a b row c content conflict-past)
       where
-        same-clock : (t : Bool) → cond t (ticked (T b .clock)) (T b .clock) .device ≡ T b .clock .device
-        same-clock true = refl
-        same-clock false = refl
-
         same-device : settleDone (T a) (T b) row c content .clock .device ≡ T b .clock .device
-        same-device = unfold settleDone in (same-clock (stamps c))
+        same-device = unfold settleDone in refl
 
-        same-counter : (t : Bool) → cond t (ticked (T b .clock)) (T b .clock) .counter ≡ cond t (suc (T b .clock .counter)) (T b .clock .counter)
-        same-counter true = refl
-        same-counter false = refl
-
-        same-count : settleDone (T a) (T b) row c content .clock .counter ≡ n
-        same-count = unfold settleDone in (same-counter (stamps c))
-
-        more : (t : Bool) → T b .clock .counter ≤ cond t (suc (T b .clock .counter)) (T b .clock .counter)
-        more true = omega arith
-        more false = omega arith
-
-        grows : T b .clock .counter ≤ settleDone (T a) (T b) row c content .clock .counter
-        grows = omega (arith, same-count, more (stamps c))
-
-        count-moved : (t : Bool) → cond t (tick vectors (k .flat) b row) (k .flat) .count b ≡ cond t (suc (T b .clock .counter)) (T b .clock .counter)
-        count-moved true = unfold tick in (rw (eq-eqb b b refl) (ap suc (k .counts b)))
-        count-moved false = k .counts b
-
-        count-b : moved .count b ≡ settleDone (T a) (T b) row c content .clock .counter
-        count-b = count-moved (stamps c) ∙ sym same-count
-
-        count-x : (x : ℕ) → eqb x b ≡ false → (t : Bool) → cond t (tick vectors (k .flat) b row) (k .flat) .count x ≡ k .flat .count x
-        count-x x q true = unfold tick in (rw q)
-        count-x x q false = refl
-
-        moved-x : (x y : ℕ) → eqb x b ≡ false → (t : Bool) → cond t (tick vectors (k .flat) b row) (k .flat) .cell x y ≡ k .flat .cell x y
-        moved-x x y q true = tick-there vectors (k .flat) b row x y q
-        moved-x x y q false = refl
+        same-count : settleDone (T a) (T b) row c content .clock .counter ≡ suc (T b .clock .counter)
+        same-count = unfold settleDone in refl
 
         there-same : (x y : ℕ) → eqb x b ≡ false → settling vectors (k .flat) a b row c content .cell x y ≡ k .flat .cell x y
-        there-same x y q = unfold settling in (put-there vectors moved b (λ y. eqb y row) _ x y q ∙ moved-x x y q (stamps c))
+        there-same x y q = unfold settling in (put-there vectors moved b (λ y. eqb y row) _ x y q ∙ tick-there vectors (k .flat) b row x y q)
 
   -- A WIDENING: the table is the same
   module _ (d : ℕ) (wider : List ℕ) (e : widenOf (s .tables d) wider .number ≡ 0) where

@@ -4,7 +4,7 @@
 -- is the source. Nothing more is to be shown for a pass the other way.
 use Prim.Native.Nat.{ℕ, _+_, _-_, _*_, _≤_, _<_}
 use mathlib.Core.Path.{_≡_, refl, sym, ap, _∙_, subst}
-use mathlib.Core.Bool.{true, false, not, _&&_, _||_, cond}
+use mathlib.Core.Bool.{true, false, not, _||_, cond}
 use mathlib.Core.List.{List, [], _∷_}
 use mathlib.Core.Option.{some}
 use mathlib.Core.Logic.{_⊎_, inl, inr, _↔_}
@@ -16,7 +16,7 @@ use Rattle.paper.specs.declared.Stamp.{Stamp}
 use Rattle.paper.specs.declared.Content.{Content}
 use Rattle.paper.specs.Columns.{Vec, covers}
 use Rattle.paper.specs.Rules.{Cell, ruling, numberOf}
-use Rattle.paper.specs.Acts.{fits, stamps, takesContent, choiceTakes}
+use Rattle.paper.specs.Acts.{fits, takesContent, choiceTakes}
 use Rattle.paper.specs.Tree.{size, levels, subtree, sheetHere}
 use Rattle.paper.specs.Words.{wide, Table, tableOf}
 use Rattle.paper.specs.Refusals.{first, when}
@@ -239,7 +239,7 @@ pub record Told (plan : List ℕ) (s : State) : Type 0 where
       → settleAny (s .tables a) (s .tables b) row choice content .number
       ≡ first (contentIf (choiceTakes (choiceNamed choice)) content
       ∷ when (not (conflicts (some (ruling (sets .knows) (s .past .cell a row) (s .past .cell b row))))) 14
-      ∷ when (stamps (choiceNamed choice) && eqb (s .past .count b) lastCount) 15
+      ∷ when (eqb (s .past .count b) lastCount) 15
       ∷ [])
   pub made : (d y : ℕ) (e : Stamp) → s .past .cell d y .known e ≡ true → Was-made s e
 

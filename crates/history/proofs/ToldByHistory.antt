@@ -2,7 +2,7 @@
 -- and by the number of events made. And its sets have none but events that were made.
 use Prim.Native.Nat.{ℕ, _≤_, _<_}
 use mathlib.Core.Path.{_≡_, refl, sym, ap, ap₂, _∙_, subst}
-use mathlib.Core.Bool.{Bool, true, false, not, _&&_, true≢false}
+use mathlib.Core.Bool.{Bool, true, false, not, true≢false}
 use mathlib.Core.List.{List, [], _∷_}
 use mathlib.Core.Option.{Option, none, some, Option·map}
 use native.Mathlib.Omega.{arith}
@@ -14,12 +14,13 @@ use Rattle.paper.specs.declared.Content.{Content}
 use Rattle.paper.specs.Devices.{devices}
 use Rattle.paper.specs.Columns.{Vec, covers}
 use Rattle.paper.specs.Rules.{Cell, ruling}
-use Rattle.paper.specs.Acts.{fits, stamps, takesContent, choiceTakes}
+use Rattle.paper.specs.Acts.{fits, takesContent, choiceTakes}
 use Rattle.paper.specs.Tree.{size, subtree, sheetHere, above, Sheet}
 use Rattle.paper.specs.Walk.{Two, cell, ruleAt}
 use Rattle.paper.specs.Words.{Table, tableOf}
 use Rattle.paper.specs.Refusals.{first, when}
-use Rattle.paper.specs.Calls.{Changed, oneToThree, eventNamed, fitsSheet, lastCount, eventRefused, twoRefused, pairAt, isFolder, rulingHere, choiceNamed, conflicts, settleRefused, settleOf, contentIf}
+use Rattle.paper.specs.Calls.{Changed, oneToThree, eventNamed, fitsSheet, lastCount, eventRefused, twoRefused}
+use Rattle.paper.specs.Calls.{pairAt, isFolder, rulingHere, choiceNamed, conflicts, settleRefused, settleOf, contentIf}
 use Rattle.paper.specs.Widths.{widthOf, tableAny, eventAny, twoWidths, settleAny}
 use Rattle.laws.proofs.Calls.{event-number, settle-number, two-accepted}
 use Rattle.laws.proofs.Forests.{shape, mapped-here}
@@ -118,7 +119,7 @@ module _ (columns : ℕ → ℕ) (plan : List ℕ) (lent : ℕ → List ℕ) (ma
         → settleAny (s .tables a) (s .tables b) row choice content .number
         ≡ first (contentIf (choiceTakes (choiceNamed choice)) content
         ∷ when (not (conflicts (some (ruling (sets .knows) (s .past .cell a row) (s .past .cell b row))))) 14
-        ∷ when (stamps (choiceNamed choice) && eqb (s .past .count b) lastCount) 15
+        ∷ when (eqb (s .past .count b) lastCount) 15
         ∷ [])
     unfolding settleAny settleRefused
     settle-told choice content n =
@@ -127,8 +128,7 @@ module _ (columns : ℕ → ℕ) (plan : List ℕ) (lent : ℕ → List ℕ) (ma
         (kept-widths columns plan lent makes s k a b row la lb ne ∙ unless-so _ 19 (eq-eqb _ _ one)))
         ∙ settle-number w (s .tables a) (s .tables b) row choice content
         ∙ first-next _ _ two-none ∙ first-next _ _ (unless-so _ 16 n) ∙ first-skip _ _ _ (when-false _ 10 (ap isFolder ruling-told))
-        ∙ ap₂ (λ o c. first (contentIf (choiceTakes (choiceNamed choice)) content ∷ when (not (conflicts o)) 14 ∷ when (stamps (choiceNamed choice) && eqb c lastCount) 15 ∷ [])) ruling-told
-        (counter-past b)
+        ∙ ap₂ (λ o c. first (contentIf (choiceTakes (choiceNamed choice)) content ∷ when (not (conflicts o)) 14 ∷ when (eqb c lastCount) 15 ∷ [])) ruling-told (counter-past b)
 
   -- a device that is not there has made no event
   none-made : (d : ℕ) → devices ≤ d → s .past .count d ≡ 0

@@ -11,12 +11,12 @@ use Rattle.paper.specs.declared.Stamp.{Stamp}
 use Rattle.paper.specs.declared.Content.{Content}
 use Rattle.paper.specs.Columns.{Vec}
 use Rattle.paper.specs.Rules.{Kind, never, live, removed, Row, Heard, news, rule, Cell, ruling}
-use Rattle.paper.specs.Acts.{Event, creates, changes, removes, isLive, fits, eventRow, Choice, theirs, own, new, stamps, birthOf, settleRow}
+use Rattle.paper.specs.Acts.{Event, creates, changes, removes, isLive, fits, eventRow, Choice, theirs, own, new, birthOf, settleRow}
 use Rattle.run.specs.Knowledge.{Sort, sets}
 use Rattle.history.specs.Vectors.{vectors}
 use Rattle.run.specs.World.{World, begin, next, tick, put, eventful, passing, settling}
-use Rattle.history.proofs.CellsFit.{Set, Stamped, Born, born-map, Fits, or-first, or-second, join-fits, take-fits}
-use Rattle.history.proofs.CellsFit.{stay-fits, passed-fits, same-refl, up, fresh, past-up, made-named, other-fits, self-fits}
+use Rattle.history.proofs.CellsFit.{Set, Stamped, Born, born-map, Fits, or-first, or-second, join-fits}
+use Rattle.history.proofs.CellsFit.{passed-fits, same-refl, up, fresh, past-up, made-named, other-fits, self-fits}
 
 -- all cells fit; every event of a sheet's log has been made
 pub record Inv (v : World Vec) (h : World Set) : Type 0 where
@@ -142,6 +142,28 @@ new-born P removed never a b o x y = absurd o
 new-born P removed live a b o x y = y
 new-born P removed removed a b o x y = absurd o
 
+-- whatever the choice, a settled row has the new stamp, if any, and a birth that one of them has
+settle-stamp : (c : Choice) (n : Stamp) (m : Content) (a b : Row) (k : Set) → k n ≡ true → Stamped (settleRow c n m a b .kind) (k (settleRow c n m a b .stamp) ≡ true)
+unfolding settleRow
+settle-stamp c n m a b k p = go c
+  where
+    any : (q : Kind) → Stamped q (k n ≡ true)
+    any never = tt
+    any live = p
+    any removed = p
+
+    go : (c : Choice) → Stamped (settleRow c n m a b .kind) (k (settleRow c n m a b .stamp) ≡ true)
+    go theirs = any (a .kind)
+    go own = any (b .kind)
+    go new = p
+
+settle-birth : (c : Choice) (n : Stamp) (m : Content) (P : Stamp → Type 0) (a b : Row) → Opposed (a .kind) (b .kind) → Born (a .kind) (P (a .birth)) → Born (b .kind) (P (b .birth))
+    → Born (settleRow c n m a b .kind) (P (settleRow c n m a b .birth))
+unfolding settleRow
+settle-birth theirs n m P a b o x y = x
+settle-birth own n m P a b o x y = y
+settle-birth new n m P a b o x y = new-born P (a .kind) (b .kind) a b o x y
+
 -- THE STEPS keep the invariant
 module _ {v : World Vec} {h : World Set} (i : Inv v h) where
   -- an own event that fits
@@ -169,10 +191,8 @@ module _ {v : World Vec} {h : World Set} (i : Inv v h) where
 
   -- a settling where the history says conflict
   pub settle-inv : (a b s : ℕ) (c : Choice) (m : Content) → ruling (sets .knows) (h .cell a s) (h .cell b s) ≡ Conflict → Inv (settling vectors v a b s c m) (settling sets h a b s c m)
-  unfolding settling stamps settleRow ruling
-  settle-inv a b s theirs m r = put-inv i b (λ y. eqb y s) _ _ (λ y q. take-fits (i .cells a y) (i .cells b y))
-  settle-inv a b s own m r = put-inv i b (λ y. eqb y s) _ _ (λ y q. stay-fits (i .cells a y) (i .cells b y))
-  settle-inv a b s new m r =
+  unfolding settling ruling
+  settle-inv a b s c m r =
       put-inv ti b (λ y. eqb y s) _ _
       (λ y q.
       let ga = ti .cells a y in
@@ -183,11 +203,11 @@ module _ {v : World Vec} {h : World Set} (i : Inv v h) where
       let eb : rb ≡ h .cell b s .row = tick-row sets h b s b y ∙ ap (λ z. h .cell b z .row) (eqb-true y s q) in
       let o : Opposed (h .cell a s .row .kind) (h .cell b s .row .kind) = opposed (h .cell a s .row .kind) (h .cell b s .row .kind) _ r in
       join-fits ga gb
-      (settleRow new (next vectors v b) m (tick vectors v b s .cell a y .row) (tick vectors v b s .cell b y .row))
-      (settleRow new (next sets h b) m ra rb)
+      (settleRow c (next vectors v b) m (tick vectors v b s .cell a y .row) (tick vectors v b s .cell b y .row))
+      (settleRow c (next sets h b) m ra rb)
       (cc (next-same i b, ga .rows, gb .rows))
-      (or-second (th .cell a y .known (next sets h b)) _ (tick-new h b s y q))
-      (new-born (λ e. sets .join (th .cell a y .known) (th .cell b y .known) e ≡ true) (ra .kind) (rb .kind) ra rb
+      (settle-stamp c (next sets h b) m ra rb (sets .join (th .cell a y .known) (th .cell b y .known)) (or-second (th .cell a y .known (next sets h b)) _ (tick-new h b s y q)))
+      (settle-birth c (next sets h b) m (λ e. sets .join (th .cell a y .known) (th .cell b y .known) e ≡ true) ra rb
       (rw (ea, eb) o)
       (born-map (ra .kind) (or-first _ (th .cell b y .known (ra .birth))) (ga .birth))
       (born-map (rb .kind) (or-second (th .cell a y .known (rb .birth)) _) (gb .birth))))

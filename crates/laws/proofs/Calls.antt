@@ -3,14 +3,13 @@
 use Prim.Native.Nat.{ℕ, suc, _≤_, _<_}
 use mathlib.Core.Path.{_≡_, refl, ap, _∙_}
 use mathlib.Core.List.{List, [], _∷_}
-use mathlib.Core.Bool.{Bool, true, false, cond, false≢true}
+use mathlib.Core.Bool.{Bool, true, false, false≢true}
 use native.Mathlib.Omega.{arith}
 use borrow.Author.Tests.{eqb-true, eqb-false, le-leb, leb-false, lt-ltb, ltb-false}
 use lib.ListN.{length}
 use mathlib.Core.Option.{Option, none, some, Option·map}
 use Rattle.paper.specs.Tree.{size, subtree, sheetHere, shaped, Sheet, above, later}
 use Rattle.paper.specs.Walk.{Two, answers, looked}
-use Rattle.paper.specs.Acts.{stamps}
 use Rattle.paper.specs.Words.{Table, tableOf, written}
 use Rattle.paper.specs.Refusals.{first, when, tens, unless}
 use Rattle.paper.specs.Check.{checkOf, contentFits}
@@ -111,7 +110,7 @@ pass-done w s t row list e = unless-none (passRefused w s t row list) _ _ e
 pub settle-done : (w : ℕ) (s t : List ℕ) (row choice : ℕ) (content : Content) → settleRefused w s t row choice content ≡ 0
     → settleOf w s t row choice content ≡ record {
       number = 0;
-      count = cond (stamps (choiceNamed choice)) (suc (tableOf w t .clock .counter)) 0;
+      count = suc (tableOf w t .clock .counter);
       table = written w (settleDone (tableOf w s) (tableOf w t) row (choiceNamed choice) content);
     }
 unfolding settleOf

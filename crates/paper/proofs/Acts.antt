@@ -46,12 +46,15 @@ created = works 0 2 1 (holding 700 3) ∷ []
 removed : List Step
 removed = event 0 2 1 700 ∷ event 0 2 3 9 ∷ []
 
--- both have changed a sheet that both had; the target has removed it instead; each has created its own
+-- both have changed a sheet that both had; the target has removed it instead; the source has; each has created its own
 changed-both : List Step
 changed-both = event 0 2 1 700 ∷ pass 0 1 0 ∷ works 0 2 2 (holding 701 4) ∷ works 1 2 2 (holding 702 5) ∷ []
 
 target-removed : List Step
 target-removed = event 0 2 1 700 ∷ pass 0 1 0 ∷ event 0 2 2 701 ∷ event 1 2 3 0 ∷ []
+
+source-removed : List Step
+source-removed = event 0 2 1 700 ∷ pass 0 1 0 ∷ event 0 2 3 0 ∷ event 1 2 2 702 ∷ []
 
 created-both : List Step
 created-both = event 0 2 1 703 ∷ event 1 2 1 704 ∷ []
@@ -68,6 +71,7 @@ outcomes =
     (worked narrow 1 700 1 ∷ goes-on (play narrow created))
     ++ (worked (play narrow removed) 1 703 2 ∷ each-choice (play narrow changed-both))
     ++ (settled (play narrow target-removed) 3 706 7 ∷ settled (play narrow created-both) 3 707 8 ∷ [])
+    ++ (settled (play narrow source-removed) 1 708 9 ∷ settled (play narrow target-removed) 2 709 9 ∷ settled (play narrow created-both) 1 710 9 ∷ [])
 
 meant : List Outcome
 meant =
@@ -77,16 +81,20 @@ meant =
     ∷ accepted 2 2 (2 ∷ 1 ∷ 0 ∷ 2 ∷ 0 ∷ 0 ∷ 0 ∷ 0 ∷ 0 ∷ 0 ∷ 0 ∷ 0 ∷ 0 ∷ 0 ∷ 0 ∷ 0 ∷ [])
     ∷ accepted 3 3 (1 ∷ 1 ∷ 0 ∷ 3 ∷ 0 ∷ 3 ∷ 703 ∷ 2 ∷ 0 ∷ 0 ∷ 0 ∷ 0 ∷ 0 ∷ 0 ∷ 0 ∷ 0 ∷ [])
     -- theirs, own, new; new where the target was removed: the source's birth; new where each was born apart: the target's
-    ∷ accepted 0 1 (1 ∷ 1 ∷ 0 ∷ 2 ∷ 0 ∷ 1 ∷ 701 ∷ 4 ∷ 2 ∷ 0 ∷ 0 ∷ 0 ∷ 0 ∷ 0 ∷ 0 ∷ 0 ∷ [])
-    ∷ accepted 0 1 (1 ∷ 1 ∷ 1 ∷ 1 ∷ 0 ∷ 1 ∷ 702 ∷ 5 ∷ 2 ∷ 0 ∷ 0 ∷ 0 ∷ 0 ∷ 0 ∷ 0 ∷ 0 ∷ [])
+    ∷ accepted 2 2 (1 ∷ 1 ∷ 1 ∷ 2 ∷ 0 ∷ 1 ∷ 701 ∷ 4 ∷ 2 ∷ 0 ∷ 0 ∷ 0 ∷ 0 ∷ 0 ∷ 0 ∷ 0 ∷ [])
+    ∷ accepted 2 2 (1 ∷ 1 ∷ 1 ∷ 2 ∷ 0 ∷ 1 ∷ 702 ∷ 5 ∷ 2 ∷ 0 ∷ 0 ∷ 0 ∷ 0 ∷ 0 ∷ 0 ∷ 0 ∷ [])
     ∷ accepted 2 2 (1 ∷ 1 ∷ 1 ∷ 2 ∷ 0 ∷ 1 ∷ 705 ∷ 6 ∷ 2 ∷ 0 ∷ 0 ∷ 0 ∷ 0 ∷ 0 ∷ 0 ∷ 0 ∷ [])
     ∷ accepted 2 2 (1 ∷ 1 ∷ 1 ∷ 2 ∷ 0 ∷ 1 ∷ 706 ∷ 7 ∷ 2 ∷ 0 ∷ 0 ∷ 0 ∷ 0 ∷ 0 ∷ 0 ∷ 0 ∷ [])
     ∷ accepted 2 2 (1 ∷ 1 ∷ 1 ∷ 2 ∷ 1 ∷ 1 ∷ 707 ∷ 8 ∷ 1 ∷ 0 ∷ 0 ∷ 0 ∷ 0 ∷ 0 ∷ 0 ∷ 0 ∷ [])
+    -- theirs is a removal; own is one; theirs where each was born apart: the source's birth
+    ∷ accepted 2 2 (2 ∷ 1 ∷ 1 ∷ 2 ∷ 0 ∷ 0 ∷ 0 ∷ 0 ∷ 2 ∷ 0 ∷ 0 ∷ 0 ∷ 0 ∷ 0 ∷ 0 ∷ 0 ∷ [])
+    ∷ accepted 2 2 (2 ∷ 1 ∷ 1 ∷ 2 ∷ 0 ∷ 0 ∷ 0 ∷ 0 ∷ 2 ∷ 0 ∷ 0 ∷ 0 ∷ 0 ∷ 0 ∷ 0 ∷ 0 ∷ [])
+    ∷ accepted 2 2 (1 ∷ 1 ∷ 1 ∷ 2 ∷ 0 ∷ 1 ∷ 703 ∷ 0 ∷ 1 ∷ 0 ∷ 0 ∷ 0 ∷ 0 ∷ 0 ∷ 0 ∷ 0 ∷ [])
     ∷ []
 
 -- EVENTS AND SETTLINGS
 acts : outcomes ≡ meant
-unfolding outcomes goes-on each-choice meant accepted worked settled seen created removed changed-both target-removed created-both played
+unfolding outcomes goes-on each-choice meant accepted worked settled seen created removed changed-both target-removed source-removed created-both played
 acts = refl
 
 -- A WIDENING of a table with a created sheet: its number and count, the check of what is written, and the words of the sheet's row

@@ -5,10 +5,10 @@ use mathlib.Core.Bool.{Bool, true, false, not, cond}
 use native.Mathlib.Omega.{arith}
 use lib.Dec.{leb, eqb}
 use borrow.Author.Tests.{lt-ltb, le-ltb, eq-eqb, ne-eqb}
-use Rattle.paper.specs.Acts.{changes, removes, takesContent, own, new, stamps, choiceTakes}
+use Rattle.paper.specs.Acts.{changes, removes, takesContent, own, new, choiceTakes}
 use Rattle.paper.specs.Calls.{oneToThree, eventNamed, choiceNamed}
 
--- an event or a choice, and whether it makes a stamp
+-- an event or a choice is 1, 2 or 3
 pub named-none : (n : ℕ) → n ≡ 0 → false ≡ oneToThree n
 unfolding oneToThree
 named-none n h = rw (le-ltb 0 n (omega arith))
@@ -16,18 +16,6 @@ named-none n h = rw (le-ltb 0 n (omega arith))
 pub named-some : (n : ℕ) → (n ≡ 0 → ⊥) → leb n 3 ≡ oneToThree n
 unfolding oneToThree
 named-some n h = rw (lt-ltb 0 n (omega arith))
-
-pub stamps-theirs : (n : ℕ) → n ≡ 1 → false ≡ stamps (choiceNamed n)
-unfolding stamps choiceNamed
-stamps-theirs n h = rw (eq-eqb n 1 h)
-
-pub stamps-other : (n : ℕ) → (n ≡ 1 → ⊥) → not (eqb n 2) ≡ stamps (choiceNamed n)
-unfolding stamps choiceNamed
-stamps-other n h = rw (ne-eqb n 1 h) (go (eqb n 2))
-  where
-    go : (b : Bool) → not b ≡ stamps (cond b own new)
-    go true = refl
-    go false = refl
 
 -- whether a content is taken, by an event and by a choice
 pub takes-created : (n : ℕ) → n ≡ 1 → true ≡ takesContent (eventNamed n)

@@ -13,7 +13,7 @@ use vector::row::Row;
 use verdict::ruling::ruling_at;
 ghost use mathlib.Core.Path.{_≡_};
 ghost use Prim.Native.Nat.{_≤_};
-ghost use Rattle.paper.specs.Acts.{stamps, choiceTakes};
+ghost use Rattle.paper.specs.Acts.{choiceTakes};
 ghost use Rattle.paper.specs.Words.{tableOf};
 ghost use Rattle.paper.specs.Check.{checkOf};
 ghost use Rattle.paper.specs.Calls.{unlike, choiceNamed};
@@ -80,16 +80,6 @@ pub fn pass_refused(source: &[u32], target: &[u32], row: u32, answers: &[u32]) -
     0
 }
 
-// Whether a choice makes a new stamp.
-pub fn is_stamping(choice: u32) -> bool
-    ensures { λ r. ⌜ r ≡ stamps (choiceNamed choice) ⌝ }
-{
-    if choice == 1 {
-        return false;
-    }
-    choice != 2
-}
-
 // Whether a choice takes the content that is handed in.
 pub fn choice_takes(choice: u32) -> bool
     ensures { λ r. ⌜ r ≡ choiceTakes (choiceNamed choice) ⌝ }
@@ -128,10 +118,8 @@ pub fn settle_refused(
     if !said.is_conflict() {
         return 14;
     }
-    if is_stamping(choice) {
-        if target[Head::COUNTER] == Head::LAST_COUNT {
-            return 15;
-        }
+    if target[Head::COUNTER] == Head::LAST_COUNT {
+        return 15;
     }
     0
 }

@@ -78,7 +78,7 @@ meant (aside p q) = meant p ++ meant q
 
 -- C's conflict settled by theirs; by a new row, which is changed again; and on widened tables, from where device 9 goes on
 by-theirs : Play
-by-theirs = does (settle 0 1 2 1 0) (tells 1 0 (0 ∷ 0 ∷ 0 ∷ []) done)
+by-theirs = does (settle 0 1 2 1 0) (tells 0 1 (0 ∷ 0 ∷ 0 ∷ []) (tells 1 0 (1 ∷ 0 ∷ 0 ∷ []) done))
 
 by-new : Play
 by-new =
@@ -125,7 +125,7 @@ K : Play
 K =
     does (event 0 2 1 1) (does (event 1 2 1 2) (tells 1 2 (1 ∷ 0 ∷ 0 ∷ [])
     (does (whole 1 2) (tells 0 1 (3 ∷ 0 ∷ 0 ∷ [])
-    (does (whole 0 1) (does (settle 0 1 2 2 0) (tells 1 2 (0 ∷ 0 ∷ 0 ∷ [])
+    (does (whole 0 1) (does (settle 0 1 2 2 0) (tells 1 2 (1 ∷ 0 ∷ 0 ∷ [])
     (does (whole 1 2) (tells 0 2 (0 ∷ 0 ∷ 0 ∷ []) done)))))))))
 
 -- a removal that goes by way of a device that never had the sheet
@@ -133,28 +133,47 @@ by-way : Play
 by-way =
     does (event 0 2 1 1) (does (whole 0 2) (does (event 0 2 3 0) (does (whole 0 1) (tells 1 2 (2 ∷ 0 ∷ 0 ∷ []) done))))
 
--- a sheet removed twice, the later removal by one that had heard of the other; and by two that had not
+-- a sheet removed twice, the later removal by one that had heard of the other; and by two that had not: who has settled with the one
+-- brings it back there, and is in conflict with the other until a pass, of folders passed over, brings word of that removal
 removed-again : Play
 removed-again =
     does (event 0 2 1 700) (does (whole 0 1) (does (event 0 2 3 0) (does (event 1 2 3 0) (does (whole 1 0)
     (does (event 0 2 1 710) (does (whole 0 2) (does (event 0 2 3 0) (tells 0 1 (0 ∷ 0 ∷ 0 ∷ []) (does (whole 0 1)
     (does (event 2 2 2 711) (tells 2 1 (3 ∷ 0 ∷ 0 ∷ []) done)))))))))))
 
+brought-back : Play
+brought-back = tells 2 1 (1 ∷ 0 ∷ 0 ∷ []) (does (whole 2 1) (tells 1 0 (1 ∷ 0 ∷ 0 ∷ []) done))
+
 removed-apart : Play
 removed-apart =
     does (event 0 2 1 700) (does (whole 0 1) (does (whole 0 2) (does (event 1 2 3 0) (does (event 0 2 3 0) (does (event 2 2 2 712)
-    (tells 1 2 (3 ∷ 0 ∷ 0 ∷ []) (does (settle 1 2 2 2 0) (tells 0 1 (0 ∷ 0 ∷ 0 ∷ []) (does (whole 0 1)
-    (tells 2 1 (1 ∷ 0 ∷ 0 ∷ []) (does (whole 2 1) (tells 1 0 (1 ∷ 0 ∷ 0 ∷ []) done))))))))))))
+    (tells 1 2 (3 ∷ 0 ∷ 0 ∷ []) (does (whole 1 2) (does (settle 1 2 2 2 0) (tells 0 1 (0 ∷ 0 ∷ 0 ∷ []) (does (whole 0 1)
+    (aside brought-back (tells 2 0 (3 ∷ 0 ∷ 0 ∷ []) (does (whole 1 2) (tells 2 0 (1 ∷ 0 ∷ 0 ∷ []) done))))))))))))))
+
+-- one conflict, settled by 1 and by 2 apart: the two settlings are in conflict, until one of them is settled with the other
+settled-apart : ℕ → Play
+settled-apart choice =
+    does (settle 1 2 2 choice 0) (does (settle 0 1 2 choice 0) (tells 1 2 (3 ∷ 0 ∷ 0 ∷ []) (tells 2 1 (3 ∷ 0 ∷ 0 ∷ [])
+    (does (settle 1 2 2 1 0) (tells 2 1 (1 ∷ 0 ∷ 0 ∷ []) (tells 1 2 (0 ∷ 0 ∷ 0 ∷ []) done))))))
+
+opposite-ways : Play
+opposite-ways =
+    does (event 0 2 1 1) (does (event 1 2 1 2) (does (whole 0 2) (tells 1 2 (3 ∷ 0 ∷ 0 ∷ []) (tells 0 1 (3 ∷ 0 ∷ 0 ∷ [])
+    (aside (settled-apart 1) (settled-apart 2))))))
 
 plays : Play
-plays = aside A-to-E (aside F-to-G (aside born-twice (aside removed-while-changed (aside K (aside by-way (aside removed-again removed-apart))))))
+plays =
+    aside A-to-E (aside F-to-G (aside born-twice (aside removed-while-changed (aside K (aside by-way
+    (aside removed-again (aside removed-apart opposite-ways)))))))
 
 -- the history's definitions, opened at once
 unfoldable happened : Unit {0}
 unfolding Knowledge.ruled Knowledge.passed World.begin World.next World.tick World.put World.eventful World.passing World.settling Run.within Run.begun Run.step Run.run
 happened = tt
 
--- A to K, a change after B, C's conflict settled in each way, a removal by way of another device, and tables that are widened
+-- A to K, a change after B, C's conflict settled in each way, a removal by way of another device, tables that are widened, and one
+-- conflict settled twice
 told-marked : told (begun columns plan lent) plays ≡ meant plays
-unfolding plan columns lent wider whole part number told meant plays A-to-E by-theirs by-new widened F-to-G born-twice removed-while-changed K by-way removed-again removed-apart computed happened
+unfolding plan columns lent wider whole part number told meant plays A-to-E by-theirs by-new widened F-to-G born-twice removed-while-changed K
+    by-way removed-again brought-back removed-apart settled-apart opposite-ways computed happened
 told-marked = refl

@@ -1,7 +1,7 @@
 -- A settling at the words: what it needs of the two tables, and the words afterwards.
-use Prim.Native.Nat.{ℕ, suc, _-_, _<_}
+use Prim.Native.Nat.{ℕ, _-_, _<_}
 use mathlib.Core.Path.{_≡_, refl, sym, ap, ap₂, _∙_}
-use mathlib.Core.Bool.{Bool, true, false, _&&_, cond, false≢true}
+use mathlib.Core.Bool.{true, false, false≢true}
 use mathlib.Core.List.{List, [], append-nil}
 use mathlib.Core.Option.{Option, none, some, Option·map}
 use borrow.Author.Tests.{eqb-false, eq-eqb, ne-eqb}
@@ -10,7 +10,7 @@ use Rattle.paper.specs.declared.Content.{Content}
 use Rattle.paper.specs.declared.Clock.{Clock}
 use Rattle.paper.specs.Columns.{Vec, full}
 use Rattle.paper.specs.Rules.{Kind, never, live, removed, Row}
-use Rattle.paper.specs.Acts.{noStamp, Choice, theirs, own, new, stamps, birthOf, settleRow}
+use Rattle.paper.specs.Acts.{Choice, theirs, own, new, birthOf, withStamp, settleRow}
 use Rattle.paper.specs.Tree.{sheetHere, Sheet, above}
 use Rattle.paper.specs.Walk.{Two, zip, raised, ruleAt}
 use Rattle.paper.specs.Words.{kindNumber, floorOf, sheetWords, Table, tableOf}
@@ -24,66 +24,30 @@ use Rattle.two.proofs.Listed.{row-cut}
 use Rattle.two.proofs.TwoTables.{Paired, paired}
 use Rattle.verdict.proofs.Zipped.{side-left, side-right, ruling-pair}
 use Rattle.clock.specs.declared.Ticked.{Ticked}
-use Rattle.settle.specs.SettledWords.{newWords, chosenWords, settledWords, tickedBy, RowSettled}
+use Rattle.settle.specs.SettledWords.{newWords, chosenWords, settledWords, RowSettled}
+use Rattle.mend.specs.Restamped.{restamped}
 use Rattle.mend.proofs.PutInPlace.{SheetAt, FineSheet, Changed, there, good, narrow-above, sheet-fine, sheet-part}
 use Rattle.mend.proofs.SheetInPlace.{cutRow, putRow, sheet-made}
 
--- a choice by its number
-choice-theirs : (n : ℕ) → n ≡ 1 → choiceNamed n ≡ theirs
-unfolding choiceNamed
-choice-theirs n e = rw (eq-eqb n 1 e)
+-- THE CHOICE by its number
+module _ (n : ℕ) (m : Content) (s r : List ℕ) where
+  pub chosen-theirs : n ≡ 1 → takenFrom s r ≡ chosenWords (choiceNamed n) m s r
+  unfolding choiceNamed chosenWords
+  chosen-theirs e = rw (eq-eqb n 1 e)
 
-choice-own : (n : ℕ) → n ≡ 2 → choiceNamed n ≡ own
-unfolding choiceNamed
-choice-own n e = rw e
+  pub chosen-own : n ≡ 2 → r ≡ chosenWords (choiceNamed n) m s r
+  unfolding choiceNamed chosenWords
+  chosen-own e = rw e
 
-pub choice-new : (n : ℕ) → (n ≡ 1 → ⊥) → (n ≡ 2 → ⊥) → choiceNamed n ≡ new
-unfolding choiceNamed
-choice-new n e f = rw (ne-eqb n 1 e, ne-eqb n 2 f)
+  pub chosen-new : (n ≡ 1 → ⊥) → (n ≡ 2 → ⊥) → newWords m s r ≡ chosenWords (choiceNamed n) m s r
+  unfolding choiceNamed chosenWords
+  chosen-new e f = rw (ne-eqb n 1 e, ne-eqb n 2 f)
 
-pub new-stamps : stamps new ≡ true
-unfolding stamps
-new-stamps = refl
-
--- the clock after a choice, and the count of its stamp
-module _ (b : Clock) where
-  abbrev up : Ticked
-  up = record { clock = ticked b; stamp = newStamp b }
-
-  abbrev still : Ticked
-  still = record { clock = b; stamp = noStamp }
-
-  clock-by : (y : Bool) → cond y up still .clock ≡ cond y (ticked b) b
-  clock-by true = refl
-  clock-by false = refl
-
-  device-by : (y : Bool) → cond y (ticked b) b .device ≡ b .device
-  device-by true = refl
-  device-by false = refl
-
-  pub count-by : (y : Bool) → cond y up still .stamp .count ≡ cond y (suc (b .counter)) 0
-  count-by true = refl
-  count-by false = refl
-
--- THE ROW step by step, as the code goes: its floor raised, `one`, and then the choice
-module _ (w : ℕ) (b : Clock) (v : Vec) (n : ℕ) (m : Content) (s r one : List ℕ) (raise : one ≡ floored w (raised b (floorOf w r) v) r) where
-  settled-by : (c : Choice) → choiceNamed n ≡ c → (k : Ticked) → k ≡ tickedBy c b → (two : List ℕ) → two ≡ chosenWords c (newStamp b) m s one → RowSettled w b v n m s r two k
-  unfolding settledWords
-  settled-by c e k f two g = (f ∙ ap (λ x. tickedBy x b) (sym e), g ∙ ap₂ (λ x y. chosenWords x (newStamp b) m s y) (sym e) raise)
-
-  module _ (stamp : Stamp) (none : stamp ≡ noStamp) where
-    pub settled-theirs : n ≡ 1 → (two : List ℕ) → two ≡ takenFrom s one → RowSettled w b v n m s r two (record { clock = b; stamp = stamp })
-    unfolding chosenWords stamps
-    settled-theirs e two g = settled-by theirs (choice-theirs n e) _ (ap (λ z. record { clock = b; stamp = z }) none) two g
-
-    pub settled-own : n ≡ 2 → RowSettled w b v n m s r one (record { clock = b; stamp = stamp })
-    unfolding chosenWords stamps
-    settled-own e = settled-by own (choice-own n e) _ (ap (λ z. record { clock = b; stamp = z }) none) one refl
-
-  pub settled-new : (n ≡ 1 → ⊥) → (n ≡ 2 → ⊥) → (k : Ticked) → (k .clock ≡ ticked b) × (k .stamp ≡ newStamp b) → (two : List ℕ) → two ≡ newWords (k .stamp) m s one → RowSettled w b v n m s r two k
-  unfolding chosenWords stamps
-  settled-new e f k q two g =
-      settled-by new (choice-new n e f) k (ap₂ (λ y z. record { clock = y; stamp = z }) (q .0) (q .1)) two (g ∙ ap (λ (z : Stamp). newWords z m s one) (q .1))
+-- THE ROW step by step, as the code goes: its floor raised, `one`, the choice, `two`, and the new stamp
+pub row-settled : (w : ℕ) (b : Clock) (v : Vec) (n : ℕ) (m : Content) (s r one two : List ℕ) (k : Ticked) → one ≡ floored w (raised b (floorOf w r) v) r
+    → two ≡ chosenWords (choiceNamed n) m s one → (k .clock ≡ ticked b) × (k .stamp ≡ newStamp b) → RowSettled w b v n m s r (restamped (k .stamp) two) k
+unfolding settledWords
+row-settled w b v n m s r one two k raise choose up = (up .0, up .1, ap₂ restamped (up .1) (choose ∙ ap (chosenWords (choiceNamed n) m s) raise))
 
 -- a sheet's row with the floor f
 floor-words : (w : ℕ) (x : Sheet) (f : Vec) → floored w f (sheetWords w x) ≡ sheetWords w (record { row = x .row; floor = f })
@@ -91,30 +55,33 @@ floor-words w x f = ap (floored w f) (sym (append-nil (sheetWords w x))) ∙ she
 
 -- and with a new row written into it
 new-words : (w : ℕ) (stamp : Stamp) (m : Content) (x : Sheet) (k : Kind) (s b : Stamp) (held : Content) (f : Vec) → (let r : Row = record { kind = k; stamp = s; birth = b; content = held } in
-    newWords stamp m (sheetWords w x) (sheetWords w (record { row = r; floor = f })) ≡ sheetWords w (record { row = settleRow new stamp m (x .row) r; floor = f }))
+    restamped stamp (newWords m (sheetWords w x) (sheetWords w (record { row = r; floor = f }))) ≡ sheetWords w (record { row = settleRow new stamp m (x .row) r; floor = f }))
 unfolding newWords sheetWords settleRow birthOf kindNumber
 new-words w stamp m x never s b held f = refl
 new-words w stamp m x live s b held f = refl
 new-words w stamp m x removed s b held f = refl
 
+-- or with another stamp
+stamp-words : (w : ℕ) (stamp : Stamp) (x : Row) (f : Vec) → restamped stamp (sheetWords w (record { row = x; floor = f })) ≡ sheetWords w (record { row = withStamp stamp x; floor = f })
+unfolding sheetWords
+stamp-words w stamp x f = refl
+
 -- or with any choice
 choice-words : (w : ℕ) (c : Choice) (stamp : Stamp) (m : Content) (x y : Sheet)
-    → chosenWords c stamp m (sheetWords w x) (sheetWords w y) ≡ sheetWords w (record { row = settleRow c stamp m (x .row) (y .row); floor = y .floor })
+    → restamped stamp (chosenWords c m (sheetWords w x) (sheetWords w y)) ≡ sheetWords w (record { row = settleRow c stamp m (x .row) (y .row); floor = y .floor })
 unfolding chosenWords settleRow
 choice-words w theirs stamp m x y =
-    ap₂ takenFrom (sym (append-nil (sheetWords w x))) (sym (append-nil (sheetWords w y))) ∙ sheet-taken w x y [] [] ∙ append-nil (sheetWords w (record { row = x .row; floor = y .floor }))
-choice-words w own stamp m x y = refl
+    ap (restamped stamp)
+    (ap₂ takenFrom (sym (append-nil (sheetWords w x))) (sym (append-nil (sheetWords w y))) ∙ sheet-taken w x y [] [] ∙ append-nil (sheetWords w (record { row = x .row; floor = y .floor })))
+    ∙ stamp-words w stamp (x .row) (y .floor)
+choice-words w own stamp m x y = stamp-words w stamp (y .row) (y .floor)
 choice-words w new stamp m x y = new-words w stamp m x (y .row .kind) (y .row .stamp) (y .row .birth) (y .row .content) (y .floor)
 
 -- what is there where no refusal applies
 pub record SettleFits (w : ℕ) (s t : List ℕ) (row choice : ℕ) : Type 0 where
   pub two : twoRefused w s t row ≡ 0
   pub conflict : conflicts (rulingHere (tableOf w s) (tableOf w t) row) ≡ true
-  pub room : stamps (choiceNamed choice) ≡ true → tableOf w t .clock .counter ≡ lastCount → ⊥
-
-both-false : (a b : Bool) → (a && b) ≡ false → a ≡ true → b ≡ false
-both-false true b e h = e
-both-false false b e h = absurd (false≢true h)
+  pub room : tableOf w t .clock .counter ≡ lastCount → ⊥
 
 pub settle-facts : (w : ℕ) (s t : List ℕ) (row choice : ℕ) (content : Content) → settleRefused w s t row choice content ≡ 0 → SettleFits w s t row choice
 unfolding settleRefused
@@ -127,7 +94,7 @@ settle-facts w s t row choice content e =
     record {
       two = a .0;
       conflict = none-so _ _ (d .0);
-      room = λ h. eqb-false _ _ (both-false _ _ (when-none _ _ (f .0)) h);
+      room = eqb-false _ _ (when-none _ _ (f .0));
     }
 
 -- the two sheets that are in conflict
@@ -180,8 +147,8 @@ module _ (w : ℕ) (s t : List ℕ) (row choice : ℕ) (content : Content) (ok :
 
   stamp-fine : (c : Choice) → b .clock .device < w → settleRow c (newStamp (b .clock)) content (x .a .row) (x .b .row) .stamp .device < w
   unfolding settleRow
-  stamp-fine theirs h = fine-a .1
-  stamp-fine own h = fine-b .1
+  stamp-fine theirs h = h
+  stamp-fine own h = h
   stamp-fine new h = h
 
   after-fine : FineSheet w after
@@ -200,7 +167,7 @@ module _ (w : ℕ) (s t : List ℕ) (row choice : ℕ) (content : Content) (ok :
       let floor-a : floorOf w (rowAt w s row) ≡ x .a .floor = ap (floorOf w) (sym (row-cut w s row) ∙ sheet-part w s row source-at) ∙ floor-is (x .a) fine-a in
       let know = full (a .clock) (above (a .tree) row) in
       let f = raised (b .clock) (x .b .floor) (know (x .a .floor)) in
-      let by = chosenWords c (newStamp (b .clock)) content (sheetWords w (x .a)) in
+      let by : List ℕ → List ℕ = λ z. restamped (newStamp (b .clock)) (chosenWords c content (sheetWords w (x .a)) z) in
       wrote
       ∙ ap₂ (λ y z. settledWords w (b .clock) v c content y z) (sheet-part w s row source-at) (sheet-part w t row target-at)
       ∙ ap₂ (λ (y z : Vec). by (floored w (raised (b .clock) y z) (sheetWords w (x .b)))) (floor-is (x .b) fine-b) (known ∙ ap know floor-a)
@@ -214,5 +181,4 @@ module _ (w : ℕ) (s t : List ℕ) (row choice : ℕ) (content : Content) (ok :
   unfolding settleDone
   settle-changed v e k known wrote =
       sheet-made w t row target-at (settleSheet (a .clock) (b .clock) (above (a .tree) row) c content) (λ y. y .b) (zip (a .tree) (b .tree)) x (sheets .is) after-fine
-      e (after-words v e known (wrote .1))
-      (k .clock) (cond (stamps c) (ticked (b .clock)) (b .clock)) (ap (λ (z : Ticked). z .clock) (wrote .0) ∙ clock-by (b .clock) (stamps c)) (device-by (b .clock) (stamps c))
+      e (after-words v e known (wrote .2)) (k .clock) (ticked (b .clock)) (wrote .0) refl

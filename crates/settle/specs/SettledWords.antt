@@ -5,11 +5,10 @@ use mathlib.Core.Bool.{cond}
 use mathlib.Core.List.{List}
 use lib.Dec.{eqb}
 use lib.ListN.{getD, set}
-use Rattle.paper.specs.declared.Stamp.{Stamp}
 use Rattle.paper.specs.declared.Content.{Content}
 use Rattle.paper.specs.declared.Clock.{Clock}
 use Rattle.paper.specs.Columns.{Vec}
-use Rattle.paper.specs.Acts.{noStamp, Choice, theirs, own, new, stamps}
+use Rattle.paper.specs.Acts.{Choice, theirs, own, new}
 use Rattle.paper.specs.Walk.{raised}
 use Rattle.paper.specs.Words.{floorOf, tableOf, written}
 use Rattle.paper.specs.Order.{kindWord}
@@ -18,31 +17,27 @@ use Rattle.clock.specs.declared.Ticked.{Ticked}
 use Rattle.leaf.specs.Leaves.{takenFrom, floored}
 use Rattle.mend.specs.Restamped.{restamped, filled}
 
--- a new row: live, with the stamp and the content; its own birth if it was live, else that of s
-unfoldable pub newWords : Stamp → Content → List ℕ → List ℕ → List ℕ
-newWords stamp m s r =
-    let held = filled m (restamped stamp r) in
+-- a new row, but for its stamp: live, with the content; its own birth if it was live, else that of s
+unfoldable pub newWords : Content → List ℕ → List ℕ → List ℕ
+newWords m s r =
+    let held = filled m r in
     cond (eqb (kindWord r) 1) held (set (set (set held 0 1) 4 (getD s 4 0)) 5 (getD s 5 0))
 
--- what stands at the row by the choice
-unfoldable pub chosenWords : Choice → Stamp → Content → List ℕ → List ℕ → List ℕ
-chosenWords theirs stamp m s r = takenFrom s r
-chosenWords own stamp m s r = r
-chosenWords new stamp m s r = newWords stamp m s r
+-- what stands at the row by the choice, but for its stamp
+unfoldable pub chosenWords : Choice → Content → List ℕ → List ℕ → List ℕ
+chosenWords theirs m s r = takenFrom s r
+chosenWords own m s r = r
+chosenWords new m s r = newWords m s r
 
--- the floor raised by v, then the choice; b is the clock of r's table
+-- the floor raised by v, then the choice, then the new stamp; b is the clock of r's table
 unfoldable pub settledWords : ℕ → Clock → Vec → Choice → Content → List ℕ → List ℕ → List ℕ
-settledWords w b v c m s r = chosenWords c (newStamp b) m s (floored w (raised b (floorOf w r) v) r)
+settledWords w b v c m s r = restamped (newStamp b) (chosenWords c m s (floored w (raised b (floorOf w r) v) r))
 
--- the clock b after the choice, with the stamp that it handed out, if any
-abbrev pub tickedBy : Choice → Clock → Ticked
-tickedBy c b = cond (stamps c) (record { clock = ticked b; stamp = newStamp b }) (record { clock = b; stamp = noStamp })
-
--- the row r of a table with the clock b is settled: u is the row afterwards, and k the clock with its stamp
+-- the row r of a table with the clock b is settled: u is the row afterwards, and k the clock gone up, with its stamp
 abbrev pub RowSettled : ℕ → Clock → Vec → ℕ → Content → List ℕ → List ℕ → List ℕ → Ticked → Type 0
-RowSettled w b v choice m s r u k = (k ≡ tickedBy (choiceNamed choice) b) × (u ≡ settledWords w b v (choiceNamed choice) m s r)
+RowSettled w b v choice m s r u k = (k .clock ≡ ticked b) × (k .stamp ≡ newStamp b) × (u ≡ settledWords w b v (choiceNamed choice) m s r)
 
--- the conflict of the tables s and t is settled in t: u is t afterwards, and n the count of the new stamp, 0 if none is made
+-- the conflict of the tables s and t is settled in t: u is t afterwards, and n the count of the new stamp
 abbrev pub SettleMade : ℕ → List ℕ → List ℕ → List ℕ → ℕ → ℕ → Content → ℕ → Type 0
 SettleMade w s t u row choice content n =
-    (n ≡ cond (stamps (choiceNamed choice)) (suc (tableOf w t .clock .counter)) 0) × (u ≡ written w (settleDone (tableOf w s) (tableOf w t) row (choiceNamed choice) content))
+    (n ≡ suc (tableOf w t .clock .counter)) × (u ≡ written w (settleDone (tableOf w s) (tableOf w t) row (choiceNamed choice) content))

@@ -4,6 +4,7 @@ use std::ops::Range;
 
 use crate::layout::{head, word, Kind, Time, Width};
 use crate::order::{self, Place};
+use crate::table::Content;
 use crate::vector::Vector;
 
 /// The width that a table's head tells; of words that tell none, narrow.
@@ -63,6 +64,14 @@ pub fn mark(table: &[u32], row: usize) -> u32 {
 /// The class of a row.
 pub fn class(table: &[u32], row: usize) -> u32 {
     at(table, row, word::CLASS)
+}
+
+/// What a row holds.
+pub fn content_of(table: &[u32], row: usize) -> Content {
+    Content {
+        mark: mark(table, row),
+        class: class(table, row),
+    }
 }
 
 /// A vector of a row.

@@ -111,7 +111,7 @@ impl Desk {
         (answers, answer.count)
     }
 
-    /// A settling, with class 0; gives the count of the new stamp, if any.
+    /// A settling, with class 0; gives the count of the new stamp.
     pub fn settle(
         &mut self,
         source: usize,
@@ -123,7 +123,7 @@ impl Desk {
         self.settle_with(source, target, row, choice, Content { mark, class: 0 })
     }
 
-    /// A settling; gives the count of the new stamp, if any.
+    /// A settling; gives the count of the new stamp.
     pub fn settle_with(
         &mut self,
         source: usize,
@@ -134,8 +134,13 @@ impl Desk {
     ) -> u32 {
         let Content { mark, class } = content;
         let (source, target) = pair(&mut self.tables, source, target);
+        let before = target[head::COUNTER];
         let answer = second::settle(source, target, row as u32, choice, mark, class);
-        assert_eq!(answer.number, 0, "settling by {choice} at row {row}");
+        assert_eq!(
+            answer,
+            done(before + 1),
+            "settling by {choice} at row {row}"
+        );
         assert_sound(target);
         answer.count
     }

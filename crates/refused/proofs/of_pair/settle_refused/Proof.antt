@@ -1,12 +1,12 @@
 -- Each return is the first test that refuses.
 use mathlib.Core.Path.{_≡_, sym, ap, _∙_}
-use mathlib.Core.Bool.{true, false, _&&_}
+use mathlib.Core.Bool.{true, false}
 use native.Mathlib.Omega.{arith}
 use borrow.Author.Needs.{needs}
 use borrow.Author.Tests.{not-true, not-false, eq-eqb, ne-eqb}
 use lib.Dec.{eqb}
 use lib.ListN.{getD}
-use Rattle.paper.specs.Acts.{stamps, choiceTakes}
+use Rattle.paper.specs.Acts.{choiceTakes}
 use Rattle.paper.specs.Words.{tableOf}
 use Rattle.paper.specs.Refusals.{when}
 use Rattle.paper.specs.Calls.{isFolder, conflicts, oneToThree, choiceNamed, lastCount, contentIf, settleRefused}
@@ -49,7 +49,7 @@ conflict c = ap conflicts (said (search)) ∙ sym (c .before .is-conflict .ensur
 last : (c : tie.Else5)
     → let s : tie.Start = search in
     settleRefusedAny (s .args .source .now) (s .args .target .now) (s .args .row) (s .args .choice) (s .args .content)
-    ≡ when (stamps (choiceNamed (s .args .choice)) && eqb (getD (s .args .target .now) 1 0) lastCount) 15
+    ≡ when (eqb (getD (s .args .target .now) 1 0) lastCount) 15
 unfolding settleRefused tableOf
 last c =
     widths-first _ _ _ _ ∙ first-next _ _ (none (search)) ∙ first-held _ _ (named (search)) ∙ first-next _ _ (held (search)) ∙ first-passed _ _ (sheet (search)) ∙ first-held _ _ (conflict c)
@@ -67,10 +67,6 @@ returns-5 c =
     sym (widths-first _ _ _ _ ∙ first-next _ _ (none (search)) ∙ first-held _ _ (named (search)) ∙ first-next _ _ (held (search)) ∙ first-passed _ _ (sheet (search))
     ∙ first-failed 13 _ (ap conflicts (said (search)) ∙ sym (c .before .is-conflict .ensures) ∙ not-true _ (c .if5 .taken)))
 
--- whether the choice makes a stamp
-stamping : (c : tie.After-is-stamping) → let s : tie.Start = search in stamps (choiceNamed (s .args .choice)) ≡ c .is-stamping .result
-stamping c = sym (c .is-stamping .ensures)
-
 pub settle-refused-spec : {M : Type 1} → statement M
 unfolding settleRefused when
 settle-refused-spec =
@@ -83,8 +79,6 @@ settle-refused-spec =
     (λ c. let e = asked (c .before) in e
     ∙ sym (widths-first _ _ _ _ ∙ first-next _ _ (none (search)) ∙ first-held _ _ (named (search)) ∙ first-here _ _ (λ z. c .if3 .taken (e ∙ z))))
     (λ c κs. search needs) (λ c κs. two-at _ _ _ _ (c .columns-of .ensures) (none (search))) (λ c κs. search needs) returns-4 (λ c κs. search needs)
-    returns-5 (λ c κs. search needs)
+    returns-5
     (λ c. let k : tie.After-columns-of = search in let h = two-at _ _ _ _ (k .columns-of .ensures) (none (search)) in omega (arith, begin-both _ _ _ _ (h .1) (h .0) .1 .head))
-    (λ c. let k : tie.Then6 = search in sym (last (search) ∙ rw (stamping (search) ∙ k .if6 .taken, eq-eqb _ _ (c .if7 .taken))))
-    (λ c. let k : tie.Then6 = search in sym (last (search) ∙ rw (stamping (search) ∙ k .if6 .taken, ne-eqb _ _ (c .if7 .left))))
-    (λ c. sym (last (search) ∙ rw (stamping (search) ∙ c .if6 .left))))
+    (λ c. sym (last (search) ∙ rw (eq-eqb _ _ (c .if6 .taken)))) (λ c. sym (last (search) ∙ rw (ne-eqb _ _ (c .if6 .left)))))

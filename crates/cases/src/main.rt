@@ -1,5 +1,7 @@
 // The limits, the paper's marked sheets, the showings, the settlings, who is ahead, removals that meet, what a live sheet holds
 // and the two widths, run and printed.
+
+#![tactic(auto)]
 mod ahead;
 mod contents;
 mod limits;

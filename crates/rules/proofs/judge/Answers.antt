@@ -1,0 +1,7 @@
+-- What either side has heard of the other's row, and the rule that fits.
+use borrow.Author.Rules.{rules}
+use Rattle.rules.proofs.RulesAtKinds.{judged_by}
+use Rattle.rules.proofs.judge.Goals as goal
+
+pub returns : goal.returns
+returns c = let h = c.before.before.before in judged_by _ _ _ _ _ _ _ _ h.hears-ha.ensures h.hears-hb.ensures c.decide.ensures

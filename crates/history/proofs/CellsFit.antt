@@ -13,7 +13,6 @@ use Rattle.paper.specs.declared.Ruling.TheVariants.{KeepOwn, KeepTheirs, Copy, R
 use Rattle.paper.specs.declared.Stamp.{Stamp}
 use Rattle.paper.specs.Columns.{Vec, covers}
 use Rattle.paper.specs.Rules.{Kind, never, live, removed, Row, Heard, news, rule, Cell, ruling}
-use Rattle.paper.specs.Acts.{own}
 use Rattle.laws.proofs.Bools.{and_both, not_so}
 use Rattle.run.specs.Knowledge.{sets, same, ruled, passed}
 use Rattle.history.specs.Vectors.{vectors}

@@ -1,7 +1,7 @@
 -- What holds after any run: every table is sound, of its own device and of the plan's shape; no floor names an event that
 -- was not made; and beside the history there is a world of vectors, which fits the history and whose cells the tables hold.
 use Prim.{Unit, tt}
-use Prim.Native.Nat.{ℕ, ◌-◌, ◌≤◌, ◌<◌}
+use Prim.Native.Nat.{ℕ, ◌≤◌, ◌<◌}
 use mathlib.Core.Path.{◌≡◌, refl, sym, ap, ap₂, ◌∙◌, subst}
 use mathlib.Core.Bool.{Bool, true, false, cond, false≢true, true≢false}
 use mathlib.Core.List.{List, []}
@@ -14,7 +14,6 @@ use borrow.Author.Tests.{eqb-true, eq-eqb, ltb-true, ltb-false}
 use Rattle.paper.specs.Columns.{Vec, zeros, covers}
 use Rattle.paper.specs.Rules.{Cell, ruling, number_of}
 use Rattle.paper.specs.Tree.{Forest, end, mapped}
-use Rattle.paper.specs.Walk.{cell}
 use Rattle.paper.specs.Words.{wide, tree_from, Table, table_of, written}
 use Rattle.paper.specs.Widths.{Width, width_of, table_any, check_any}
 use Rattle.paper.specs.Order.{parse, forest_of}

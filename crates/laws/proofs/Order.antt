@@ -10,7 +10,7 @@ use lib.Dec.{eqb}
 use borrow.Author.Tests.{ltb-true, leb-true, eqb-true, lt-ltb, le-leb, ne_eqb}
 use lib.ListN.{length, take, drop, length-take, length-drop, take-append-drop}
 use lib.Seq.{length-take-le, drop-drop}
-use Rattle.paper.specs.Tree.{end, sheet}
+use Rattle.paper.specs.Tree.{end}
 use Rattle.paper.specs.Order.{kind_word, size_word, beneath, after, row_fits, in_order, ordered, placed, parse, forest_of}
 use Rattle.laws.proofs.Bools.{and_both, or_right}
 

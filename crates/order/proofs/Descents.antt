@@ -9,7 +9,7 @@ use lib.Dec.{eqb, ltb}
 use borrow.Author.Tests.{eq-eqb, eqb-true, eqb-false, ltb-true, lt-ltb}
 use lib.ListN.{length, take}
 use Rattle.paper.specs.Columns.{Vec, greatest}
-use Rattle.paper.specs.Tree.{sheet, folder, mapped, size, above}
+use Rattle.paper.specs.Tree.{folder, mapped, size, above}
 use Rattle.paper.specs.Order.{kind_word, size_word, beneath, after, ordered, Raw, placed, forest_of}
 use Rattle.paper.specs.Words.{wide, sheet_of, floor_of, tree_from, tree_of}
 use Rattle.laws.proofs.Order.{Step, ordered_facts, forest_step, beneath_length, row_room}

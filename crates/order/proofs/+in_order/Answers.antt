@@ -1,8 +1,8 @@
 -- A part's order, row by row: past the tests the row at `at` fits, and the order is that of what is left after it.
-use Rattle.order.proofs.Siblings.{Here, here_cut, beneath_less, row_broken, beneath_broken, order_next, sheet_next}
-use Rattle.vector.proofs.Parts.{none_ordered, words_fit}
-use Rattle.std.proofs.Common.{◌≡◌, ◌∙◌, ◌<◌, ◌≤◌, ◌-◌, ◌+◌, ℕ, length, get_or, take, drop, refl, sym, true, arith, length-drop}
-use Rattle.paper.specs.Order.{row_fits, ordered}
+use Rattle.order.proofs.Siblings.{Here, here_cut, row_broken, beneath_broken, order_next, sheet_next}
+use Rattle.vector.proofs.Parts.{none_ordered}
+use Rattle.std.proofs.Common.{◌≡◌, ◌∙◌, ◌-◌, ℕ, length, take, drop, sym, true, arith, length-drop}
+use Rattle.paper.specs.Order.{row_fits}
 use Rattle.order.proofs.+in_order.Goals as goal
 use Rattle.order.proofs.+in_order.Goals.{Else-not-row_fits}
 

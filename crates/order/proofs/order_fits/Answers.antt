@@ -5,9 +5,7 @@ use Rattle.paper.specs.Check.{order_fits}
 use borrow.Author.Tests.{eq-eqb, ne_eqb}
 use mathlib.Core.Bool.{and-false}
 use native.Mathlib.Omega.{arith}
-use Prim.Native.Nat.{◌-◌}
 use mathlib.Core.Path.{sym, ◌∙◌}
-use borrow.Author.Rules.{rules}
 use Rattle.order.proofs.order_fits.Goals as goal
 
 pub returns-then-rows-width : goal.returns-then-rows-width

@@ -6,10 +6,8 @@ use Rattle.vector.proofs.Parts.{words_fit}
 use Rattle.paper.specs.Order.{row_fits}
 use mathlib.Core.Bool.{false}
 use native.Mathlib.Omega.{arith}
-use Prim.Native.Nat.{◌-◌}
 use lib.ListN.{get_or}
 use mathlib.Core.Path.{◌≡◌, sym}
-use borrow.Author.Rules.{rules}
 use Rattle.order.proofs.row_fits.Goals as goal
 use Rattle.order.proofs.row_fits.Goals.{Start, then-kind-ne-FOLDER+else-size-ne1, else-kind-ne-FOLDER}
 
@@ -47,7 +45,7 @@ returns c =
     let t = c.args.t.now in
     sym (facts_fit c.args.width c.args.levels t (omega arith) (omega arith) (omega arith)
     (elim c.if-kind-ne-FOLDER.branch [
-      then-kind-ne-FOLDER+else-size-ne1 w ↦ second_so (get_or t 0 0) 3 (get_or t 1 0) 1 w.if-size-ne1.false
-    | else-kind-ne-FOLDER w ↦ first_so (get_or t 0 0) 3 (get_or t 1 0) 1 w.if-kind-ne-FOLDER.false
+      | then-kind-ne-FOLDER+else-size-ne1 w ↦ second_so (get_or t 0 0) 3 (get_or t 1 0) 1 w.if-size-ne1.false
+      | else-kind-ne-FOLDER w ↦ first_so (get_or t 0 0) 3 (get_or t 1 0) 1 w.if-kind-ne-FOLDER.false
     ])
     (omega arith))

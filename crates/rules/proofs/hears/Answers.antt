@@ -1,6 +1,5 @@
 -- The stamp and the birth in the row.
 use mathlib.Core.Path.{ap, ◌∙◌}
-use borrow.Author.Rules.{rules}
 use Rattle.paper.specs.Columns.{vec, covers}
 use Rattle.paper.specs.Words.{row_of}
 use Rattle.rules.proofs.hears.Goals as goal

@@ -1,5 +1,4 @@
 -- What either side has heard of the other's row, and the rule that fits.
-use borrow.Author.Rules.{rules}
 use Rattle.rules.proofs.RulesAtKinds.{judged_by}
 use Rattle.rules.proofs.judge.Goals as goal
 

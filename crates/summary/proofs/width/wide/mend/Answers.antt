@@ -1,0 +1,19 @@
+-- What the folder comes to is put into its row, vector by vector.
+use mathlib.Core.Path.{◌≡◌, ap, ◌∙◌}
+use Rattle.paper.specs.Columns.{Vec, vec}
+use Rattle.paper.specs.Widths.{wide_columns}
+use Rattle.paper.specs.Words.{floor_of}
+use Rattle.summary.specs.Sums.{Sums, said, sums_under}
+use Rattle.summary.proofs.SiblingSums.{given_some, mended_by_lem}
+use Rattle.summary.proofs.width.wide.mend.Goals as goal
+use Rattle.summary.proofs.width.wide.mend.Goals.{After-under-s}
+
+came : (c : After-under-s) → let q = c.args in
+    said c.under-s.result ≡ sums_under (floor_of wide_columns q.row.now) (said q.children)
+came c = c.under-s.ensures ∙ ap (λ (f : Vec). sums_under f (said c.args.children)) c.read-floor.ensures
+
+pub returns : goal.returns
+returns c =
+    let u = (goal.at.returns c).After-under-s in let s = c.under-s.result in
+    mended_by_lem wide_columns _ _ _ _ _ (vec s.newest.0) (vec s.least.0) (vec s.most.0) c.write.ensures c.write-2.ensures c.write-3.ensures
+    (ap (λ (x : Sums). x.newest) (came u)) (given_some s.any (ap (λ (x : Sums). x.least) (came u))) (ap (λ (x : Sums). x.most) (came u))

@@ -1,6 +1,7 @@
 // Refusal 3 at one row: the rules of the layout and the times for a sheet, and of the layout and the summaries for a folder.
 
 #![tactic(auto)]
+
 pub mod narrow;
 pub mod wide;
 

@@ -1,0 +1,10 @@
+-- The floor is raised, then the summaries are put right by those in the row.
+use Rattle.paper.specs.Widths.{narrow_columns}
+use Rattle.leaf.proofs.LeafWords.{over_row_lem}
+use Rattle.paper.specs.Columns.{vec}
+use Rattle.leaf.proofs.narrow.raise_folder.Goals as goal
+
+pub returns : goal.returns
+returns c =
+    let q = c.args in
+    over_row_lem narrow_columns _ _ _ (vec q.ua.0) _ _ c.full_at-least.ensures c.raise_floor.ensures c.of_folder-rows.ensures c.mend.ensures

@@ -1,6 +1,7 @@
 // The clock: it is lent, goes up by one in place, and hands out the new stamp.
 
 #![tactic(auto)]
+
 ghost use Rattle.std.specs.Prelude.{◌≡◌, ◌+◌, ◌<◌, ◌^◌};
 ghost use Rattle.paper.specs.Calls.{new_stamp, ticked};
 

@@ -1,6 +1,7 @@
 // Every refusal of the public calls, in the paper's order: helpers that only read. 0 where nothing refuses.
 
 #![tactic(auto)]
+
 pub mod of_pair;
 pub mod of_showing;
 pub mod of_table;

@@ -1,5 +1,5 @@
 """What several tools share: how they end on an error, how they read and write files, crates.txt, `use` lines, must-fail edits,
-places, and lists in lines. No tool by itself. The tools are run from the repository's root."""
+and lists in lines. No tool by itself. The tools are run from the repository's root."""
 import os
 import re
 import subprocess
@@ -61,16 +61,21 @@ def known_files(folder):
     return [path for path in listed if os.path.isfile(path)]
 
 
+# ---- the files of a function's proof, in proofs/FUNCTION/: the loops, the goals, and a proof by hand
+
+PROOFS = {'Invariants.antt', 'Answers.antt', 'Proof.antt'}
+
+
 # ---- crates.txt
 
 
 def stands_on(root='.'):
-    """For each crate, the crates that crates.txt puts straight below it, in the order of the file."""
+    """For each crate, the crates that crates.txt puts straight below it, in the order of the file; `NAME staticlib:` is NAME's line."""
     deps = {}
     for line in read(os.path.join(root, 'crates.txt')).splitlines():
         name, colon, rest = line.split('#')[0].partition(':')
-        if colon:
-            deps[name.strip()] = rest.split()
+        if colon and name.split():
+            deps[name.split()[0]] = rest.split()
     return deps
 
 
@@ -96,8 +101,8 @@ def without_comments(lines):
 
 
 def has_name(name, text):
-    """Whether a name stands in a text by itself, not as a part of a longer one."""
-    return re.search(r'(?<![\w\-′·])' + re.escape(name) + r'(?![\w\-′])', text) is not None
+    """Whether a name stands in a text by itself, not as a part of a longer one and not as a field, `x.NAME`."""
+    return re.search(r"(?<![\w\-'.])" + re.escape(name) + r"(?![\w\-'])", text) is not None
 
 
 # ---- must-fail edits: crates/CRATE/must-fail/LABEL.edit
@@ -138,41 +143,9 @@ def edited(crate, edit):
         if count != 1:
             raise Stale(f'COUNT {count} {file} | {old[:90]}')
         after[path] = after[path].replace(old, new)
+    if after == before:
+        raise Stale('CHANGES NOTHING')
     return before, after
-
-
-# ---- places: what `rt dev CRATE --generated DIR` writes in DIR/Rattle·CRATE·proofs/proofs/**/Lts.antt
-
-PLACE = re.compile(r'pub record (\S+)(?: \([^\n]*)? : Type \d where\n'
-                   r'((?:[ \t]+[^\n]*\n)+?)(?=\s*\n|\s*pub record|\s*abbrev|\s*mutual|\S)')
-
-
-def places_behind(lts):
-    """For each place of a function: the place before it, and the name of its own fact."""
-    behind = {}
-    for place, body in PLACE.findall(lts):
-        if place.endswith('·own'):
-            continue
-        fields = re.findall(r'pub (\S+) :\s+(\S+)', body)
-        before = [kind for name, kind in fields if name == 'before']
-        facts = [name for name, _ in fields if name != 'before']
-        if before:
-            behind[place] = (before[0], facts[0] if facts else '?')
-    return behind
-
-
-def facts_back(behind, place):
-    """The facts from a place back to the function's start, nearest first; the last is the start's own name."""
-    facts = []
-    while place in behind:
-        place, fact = behind[place]
-        facts.append(fact)
-    return facts + [place]
-
-
-def places_of_needs(lts):
-    """For each need of a function, in order, the place that it stands at."""
-    return dict(re.findall(r'(Need-\S+) =\s+\(c : (\S+?)\)', lts))
 
 
 # ---- lists in lines

@@ -1,5 +1,5 @@
-//! Links the library: `libkettleflock.a` in the folder that KETTLEFLOCK_LIB_DIR names by an absolute path, else where `rt
-//! staticlib kettleflock` writes it.
+//! Links the library: `libkettleflock.a` in the folder that KETTLEFLOCK_LIB_DIR names by an absolute path, else where
+//! `scripts/archive` puts it.
 
 use std::env;
 use std::path::PathBuf;
@@ -16,7 +16,7 @@ fn main() {
     println!("cargo::rerun-if-changed={}", archive.display());
     if !archive.is_file() {
         println!(
-            "cargo::error=there is no {}: make it with `rt staticlib kettleflock`, or name its folder by {FOLDER}",
+            "cargo::error=there is no {}: make it with `scripts/archive`, or name its folder by {FOLDER}",
             archive.display()
         );
         return;

@@ -1,6 +1,5 @@
 -- The children's rows, and then the row.
 use mathlib.Core.Path.{sym, ap, subst, ◌∙◌}
-use borrow.Author.Rules.{rules}
 use native.Mathlib.Omega.{arith}
 use Rattle.paper.specs.Words.{wide}
 use Rattle.laws.proofs.Widths.{width_few}

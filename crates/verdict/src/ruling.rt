@@ -11,7 +11,7 @@ use rules::judge;
 use vector::row::Row;
 
 // Of a folder the rules say nothing, of a sheet a ruling.
-#[derive(Drop)]
+#[derive(Clone, Copy)]
 pub enum Said {
     Folder,
     Sheet(Ruling),

@@ -4,6 +4,7 @@ use crate::step::{CHANGE, CREATE, REMOVE};
 use kettleflock::passing::pass;
 use kettleflock::settling::settle;
 use paper::{Answer, Choice, Content};
+use std::io;
 use vector::row::{Narrow, Row};
 
 // A table of two rows.
@@ -13,11 +14,11 @@ type Small = [u32; 3 * Narrow::WIDTH];
 const SHEET: usize = 2 * Narrow::WIDTH;
 
 // The answer of a call, and the sheet's kind to its class afterwards, to the end of the line.
-fn shown(a: Answer, table: &[u32]) {
-    answer(a);
-    character(b',');
-    words(table, SHEET, SHEET + Row::FLOOR);
-    character(b'\n');
+fn shown(rt: &impl Print, a: Answer, table: &[u32]) -> io::Result<()> {
+    answer(rt, a)?;
+    character(rt, ',')?;
+    words(rt, table, SHEET, SHEET + Row::FLOOR)?;
+    character(rt, '\n')
 }
 
 // A new table of a device: a root with one sheet.
@@ -29,82 +30,97 @@ fn fresh(device: u32) -> Small {
 }
 
 // An event at the sheet.
-fn event(mut table: Small, event: u32, mark: u32, class: u32) -> Small {
+fn event(
+    rt: &impl Print,
+    mut table: Small,
+    event: u32,
+    mark: u32,
+    class: u32,
+) -> io::Result<Small> {
     let a = kettleflock::event(&mut table, 1, event, Content { mark, class });
-    one_of(b"/create/change/remove/", event);
-    shown(a, &table);
-    table
+    one_of(rt, "/create/change/remove/", event)?;
+    shown(rt, a, &table)?;
+    Ok(table)
 }
 
 // A pass at the root.
-fn pass_root(source: Small, mut target: Small) -> Small {
+fn pass_root(rt: &impl Print, source: Small, mut target: Small) -> io::Result<Small> {
     let mut answers = [9u32; 2];
     let a = pass(&source, &mut target, 0, &mut answers);
-    text(b"pass");
-    shown(a, &target);
-    target
+    text(rt, "pass")?;
+    shown(rt, a, &target)?;
+    Ok(target)
 }
 
 // The sheet settled.
-fn settling(source: Small, mut target: Small, choice: u32, mark: u32, class: u32) -> Small {
+fn settling(
+    rt: &impl Print,
+    source: Small,
+    mut target: Small,
+    choice: u32,
+    mark: u32,
+    class: u32,
+) -> io::Result<Small> {
     let a = settle(&source, &mut target, 1, choice, Content { mark, class });
-    one_of(b"/settle theirs/settle own/settle new/", choice);
-    shown(a, &target);
-    target
+    one_of(rt, "/settle theirs/settle own/settle new/", choice)?;
+    shown(rt, a, &target)?;
+    Ok(target)
 }
 
 // The check of a table.
-fn checked(table: Small) {
-    text(b"check");
-    shown(kettleflock::check(&table), &table);
+fn checked(rt: &impl Print, table: Small) -> io::Result<()> {
+    text(rt, "check")?;
+    shown(rt, kettleflock::check(&table), &table)
 }
 
 // The check of a table whose sheet has another class.
-fn with_class(mut table: Small, class: u32) {
+fn with_class(rt: &impl Print, mut table: Small, class: u32) -> io::Result<()> {
     table[SHEET + Row::CLASS] = class;
-    checked(table);
+    checked(rt, table)
 }
 
 // The same with another mark.
-fn with_mark(mut table: Small, mark: u32) {
+fn with_mark(rt: &impl Print, mut table: Small, mark: u32) -> io::Result<()> {
     table[SHEET + Row::MARK] = mark;
-    checked(table);
+    checked(rt, table)
 }
 
 // A class travels with the mark by copy and by theirs, and is taken by new; own keeps it. What theirs and own are handed is ignored.
-pub fn travel() {
-    let zero = event(fresh(0), CREATE, 700, 4);
-    let one = pass_root(zero, fresh(1));
-    let zero = event(zero, CHANGE, 701, 5);
-    let one = event(one, CHANGE, 702, 6);
-    settling(zero, one, Choice::THEIRS, 0, 10);
-    settling(zero, one, Choice::OWN, 0, 10);
-    settling(zero, one, Choice::NEW, 703, 9);
+pub fn travel(rt: &impl Print) -> io::Result<()> {
+    let zero = event(rt, fresh(0), CREATE, 700, 4)?;
+    let one = pass_root(rt, zero, fresh(1))?;
+    let zero = event(rt, zero, CHANGE, 701, 5)?;
+    let one = event(rt, one, CHANGE, 702, 6)?;
+    settling(rt, zero, one, Choice::THEIRS, 0, 10)?;
+    settling(rt, zero, one, Choice::OWN, 0, 10)?;
+    settling(rt, zero, one, Choice::NEW, 703, 9)?;
+    Ok(())
 }
 
 // A class above 9 is refused by 21, then mark 0 by 22, and nothing changes; a removal ignores both.
-pub fn refused() {
-    let zero = event(fresh(0), CREATE, 700, 10);
-    let zero = event(zero, CREATE, 0, 9);
-    let zero = event(zero, CREATE, 0, 10);
-    let zero = event(zero, CREATE, 700, 9);
-    let one = pass_root(zero, fresh(1));
-    let zero = event(zero, CHANGE, 701, 10);
-    let zero = event(zero, CHANGE, 701, 8);
-    let one = event(one, CHANGE, 702, 7);
-    settling(zero, one, Choice::NEW, 703, 10);
-    settling(zero, one, Choice::NEW, 0, 0);
-    event(zero, REMOVE, 0, 10);
+pub fn refused(rt: &impl Print) -> io::Result<()> {
+    let zero = event(rt, fresh(0), CREATE, 700, 10)?;
+    let zero = event(rt, zero, CREATE, 0, 9)?;
+    let zero = event(rt, zero, CREATE, 0, 10)?;
+    let zero = event(rt, zero, CREATE, 700, 9)?;
+    let one = pass_root(rt, zero, fresh(1))?;
+    let zero = event(rt, zero, CHANGE, 701, 10)?;
+    let zero = event(rt, zero, CHANGE, 701, 8)?;
+    let one = event(rt, one, CHANGE, 702, 7)?;
+    settling(rt, zero, one, Choice::NEW, 703, 10)?;
+    settling(rt, zero, one, Choice::NEW, 0, 0)?;
+    event(rt, zero, REMOVE, 0, 10)?;
+    Ok(())
 }
 
 // In a table: a class of 9 and of 10 in a live row, and of 1 in a row that is removed or never was; a mark of 1 and of 0 in a live row.
-pub fn tables() {
-    let live = event(fresh(0), CREATE, 700, 0);
-    with_class(live, 9);
-    with_class(live, 10);
-    with_mark(live, 1);
-    with_mark(live, 0);
-    let removed = event(live, REMOVE, 0, 0);
-    with_class(removed, 1);
-    with_class(fresh(0), 1);
+pub fn tables(rt: &impl Print) -> io::Result<()> {
+    let live = event(rt, fresh(0), CREATE, 700, 0)?;
+    with_class(rt, live, 9)?;
+    with_class(rt, live, 10)?;
+    with_mark(rt, live, 1)?;
+    with_mark(rt, live, 0)?;
+    let removed = event(rt, live, REMOVE, 0, 0)?;
+    with_class(rt, removed, 1)?;
+    with_class(rt, fresh(0), 1)
 }

@@ -2,6 +2,7 @@
 // and the two widths, run and printed.
 
 #![tactic(auto)]
+
 mod ahead;
 mod contents;
 mod limits;
@@ -14,35 +15,36 @@ mod step;
 mod widths;
 
 use settlings::settled;
+use std::io;
 use step::{CHANGE, NEW, OWN, REMOVE, REMOVED, THEIRS};
 
-fn main() {
-    limits::rows();
-    limits::rows_beyond();
-    limits::levels();
-    limits::counter();
-    marked::abcde();
-    marked::fg();
-    marked::h();
-    marked::ij();
-    marked::k();
-    showings::folders();
-    showings::empty();
-    showings::standings();
-    settled(THEIRS, CHANGE, 702, 1);
-    settled(OWN, CHANGE, 702, 2);
-    settled(NEW, CHANGE, 702, 3);
-    settled(REMOVED, REMOVE, 0, 3);
-    settlings::refused();
-    settlings::opposite();
-    ahead::told();
-    removals::held();
-    removals::back();
-    contents::travel();
-    contents::refused();
-    contents::tables();
-    widths::made();
-    widths::widened();
-    widths::apart();
-    widths::passed();
+fn main(rt: HostRuntime) -> io::Result<()> {
+    limits::rows(&rt)?;
+    limits::rows_beyond(&rt)?;
+    limits::levels(&rt)?;
+    limits::counter(&rt)?;
+    marked::abcde(&rt)?;
+    marked::fg(&rt)?;
+    marked::h(&rt)?;
+    marked::ij(&rt)?;
+    marked::k(&rt)?;
+    showings::folders(&rt)?;
+    showings::empty(&rt)?;
+    showings::standings(&rt)?;
+    settled(&rt, THEIRS, CHANGE, 702, 1)?;
+    settled(&rt, OWN, CHANGE, 702, 2)?;
+    settled(&rt, NEW, CHANGE, 702, 3)?;
+    settled(&rt, REMOVED, REMOVE, 0, 3)?;
+    settlings::refused(&rt)?;
+    settlings::opposite(&rt)?;
+    ahead::told(&rt)?;
+    removals::held(&rt)?;
+    removals::back(&rt)?;
+    contents::travel(&rt)?;
+    contents::refused(&rt)?;
+    contents::tables(&rt)?;
+    widths::made(&rt)?;
+    widths::widened(&rt)?;
+    widths::apart(&rt)?;
+    widths::passed(&rt)
 }

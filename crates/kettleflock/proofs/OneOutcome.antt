@@ -27,17 +27,6 @@ use Rattle.kettleflock.specs.contracts.showing.standing_answer as standing_answe
 use Rattle.kettleflock.specs.contracts.showing.standing_side as standing_side
 use Rattle.kettleflock.specs.contracts.showing.beneath as beneath
 use Rattle.kettleflock.specs.contracts.showing.standing as standing
-use Rattle.kettleflock.specs.contracts.exports.kf_version as kf_version
-use Rattle.kettleflock.specs.contracts.exports.kf_check as kf_check
-use Rattle.kettleflock.specs.contracts.exports.kf_new as kf_new
-use Rattle.kettleflock.specs.contracts.exports.kf_widen as kf_widen
-use Rattle.kettleflock.specs.contracts.exports.kf_event as kf_event
-use Rattle.kettleflock.specs.contracts.exports.kf_pass as kf_pass
-use Rattle.kettleflock.specs.contracts.exports.kf_settle as kf_settle
-use Rattle.kettleflock.specs.contracts.exports.kf_beneath as kf_beneath
-use Rattle.kettleflock.specs.contracts.exports.kf_standing as kf_standing
-use Rattle.kettleflock.specs.contracts.exports.kf_standing_side as kf_standing_side
-use Rattle.kettleflock.specs.contracts.exports.kf_ahead as kf_ahead
 
 -- of a function: the lifetimes it is called at, and what two results have to have in common
 abbrev pub Lives : Ended → Type 0
@@ -59,7 +48,7 @@ module _ {M : Type 1} (𝓤 : Ura M) where
   One T c = Settles T (λ κs x y. x ≡ y) c
 
   module _ (𝓛 : Logic 𝓤) (m : Memory → SProp 𝓤) (f : Routine → Fun 𝓤) where
-    -- one field a call, then one an export; parts are alike if their words and their place are equal
+    -- one field a call; parts are alike if their words and their place are equal
     pub record OneOutcome : Type 1 where
       pub check : One check.ended (check.clauses 𝓛 m f)
       pub new : One new.ended (new.clauses 𝓛 m f)
@@ -73,20 +62,9 @@ module _ {M : Type 1} (𝓤 : Ura M) where
       pub standing_side : One standing_side.ended (standing_side.clauses 𝓛 m f)
       pub beneath : Settles beneath.ended (λ κs x y. (x.now ≡ y.now) × (x.ref_ptr ≡ y.ref_ptr)) (beneath.clauses 𝓛 m f)
       pub standing : Settles standing.ended (λ κs x y. (x.now ≡ y.now) × (x.ref_ptr ≡ y.ref_ptr)) (standing.clauses 𝓛 m f)
-      pub kf_version : One kf_version.ended (kf_version.clauses 𝓛 m f)
-      pub kf_check : One kf_check.ended (kf_check.clauses 𝓛 m f)
-      pub kf_new : One kf_new.ended (kf_new.clauses 𝓛 m f)
-      pub kf_widen : One kf_widen.ended (kf_widen.clauses 𝓛 m f)
-      pub kf_event : One kf_event.ended (kf_event.clauses 𝓛 m f)
-      pub kf_pass : One kf_pass.ended (kf_pass.clauses 𝓛 m f)
-      pub kf_settle : One kf_settle.ended (kf_settle.clauses 𝓛 m f)
-      pub kf_beneath : One kf_beneath.ended (kf_beneath.clauses 𝓛 m f)
-      pub kf_standing : One kf_standing.ended (kf_standing.clauses 𝓛 m f)
-      pub kf_standing_side : One kf_standing_side.ended (kf_standing_side.clauses 𝓛 m f)
-      pub kf_ahead : One kf_ahead.ended (kf_ahead.clauses 𝓛 m f)
 
   -- a contract that asks nothing and promises the plain fact F
-  plain : (T : Ended) (Like : Alike T) (F : (κs : Lives T) → Args T.signature κs → Res T.signature κs → AtExit T κs → Type 0)
+  pub plain : (T : Ended) (Like : Alike T) (F : (κs : Lives T) → Args T.signature κs → Res T.signature κs → AtExit T κs → Type 0)
       → ((κs : Lives T) (a : Args T.signature κs) (x y : Res T.signature κs) (u v : Lasts T κs a) → F κs a x (at_exit T κs a u) → F κs a y (at_exit T κs a v) → Like κs x y × (u ≡ v))
       → Settles T Like (λ κs a. record { ghost = Unit {0}; requires = λ g. emp 𝓤; ensures = λ g r e. fact 𝓤 (F κs a r e) })
   plain T Like F h = record {
@@ -98,26 +76,26 @@ module _ {M : Type 1} (𝓤 : Ura M) where
   }
 
 -- two outcomes that are both o agree in whatever is read off an outcome, and two parts in their words and their place
-by : {O X U : Type 0} (f : O → X) (h : O → U) {s t o : O} → s ≡ o → t ≡ o → (f s ≡ f t) × (h s ≡ h t)
+pub by : {O X U : Type 0} (f : O → X) (h : O → U) {s t o : O} → s ≡ o → t ≡ o → (f s ≡ f t) × (h s ≡ h t)
 by f h p q = (ap f (p ∙ sym q), ap h (p ∙ sym q))
 
 part : {X Y U : Type 0} {s t o : X} {i j k : Y} {u : U} → (s ≡ o) × (i ≡ k) → (t ≡ o) × (j ≡ k) → ((s ≡ t) × (i ≡ j)) × (u ≡ u)
 part p q = ((p.0 ∙ sym q.0, p.1 ∙ sym q.1), refl)
 
 -- what is returned, read off an outcome
-abbrev answered : Answered → Answer
+abbrev pub answered : Answered → Answer
 answered o = record { number = o.number; count = o.count }
 
-abbrev changed : Changed → Answer
+abbrev pub changed : Changed → Answer
 changed o = record { number = o.number; count = o.count }
 
-abbrev passed : Passed → Answer
+abbrev pub passed : Passed → Answer
 passed o = record { number = o.number; count = o.count }
 
-abbrev masked : Masked → Masks
+abbrev pub masked : Masked → Masks
 masked o = record { number = o.number; source = o.source; target = o.target }
 
-abbrev side : ℕ → ℕ
+abbrev pub side : ℕ → ℕ
 side o = o
 
 pub one_outcome : {M : Type 1} {𝓤 : Ura M} (𝓛 : Logic 𝓤) (m : Memory → SProp 𝓤) (f : Routine → Fun 𝓤) → OneOutcome 𝓤 𝓛 m f
@@ -134,15 +112,4 @@ one_outcome {𝓤 = 𝓤} 𝓛 m f = record {
   standing_side = plain 𝓤 _ _ _ (λ κs a x y u v. by side (λ o. (tt, (tt, (tt, tt)))));
   beneath = plain 𝓤 _ _ _ (λ κs a x y u v. part);
   standing = plain 𝓤 _ _ _ (λ κs a x y u v. part);
-  kf_version = plain 𝓤 _ _ _ (λ κs a x y u v. by side (λ o. tt));
-  kf_check = plain 𝓤 _ _ _ (λ κs a x y u v. by answered (λ o. (tt, tt)));
-  kf_new = plain 𝓤 _ _ _ (λ κs a x y u v. by changed (λ o. (tt, (tt, (tt, (o.table, tt))))));
-  kf_widen = plain 𝓤 _ _ _ (λ κs a x y u v. by changed (λ o. (tt, (o.table, tt))));
-  kf_event = plain 𝓤 _ _ _ (λ κs a x y u v. by changed (λ o. (o.table, (tt, (tt, (tt, (tt, tt)))))));
-  kf_pass = plain 𝓤 _ _ _ (λ κs a x y u v. by passed (λ o. (tt, (o.target, (tt, (o.answers, tt))))));
-  kf_settle = plain 𝓤 _ _ _ (λ κs a x y u v. by changed (λ o. (tt, (o.table, (tt, (tt, (tt, (tt, tt))))))));
-  kf_beneath = plain 𝓤 _ _ _ (λ κs a x y u v. by answered (λ o. (tt, (tt, tt))));
-  kf_standing = plain 𝓤 _ _ _ (λ κs a x y u v. by answered (λ o. (tt, (tt, (tt, tt)))));
-  kf_standing_side = plain 𝓤 _ _ _ (λ κs a x y u v. by side (λ o. (tt, (tt, (tt, tt)))));
-  kf_ahead = plain 𝓤 _ _ _ (λ κs a x y u v. by masked (λ o. (tt, (tt, (tt, tt)))));
 }

@@ -1,6 +1,7 @@
 // A pass in place: the rows of a subtree walked, and the summaries above it.
 
 #![tactic(auto)]
+
 ghost use Rattle.std.specs.Prelude.{◌≡◌};
 ghost use Rattle.paper.specs.Calls.{passed, done, pass_refused, pass_of};
 ghost use Rattle.paper.specs.Widths.{Width};

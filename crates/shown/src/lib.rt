@@ -1,6 +1,7 @@
 // The rows beneath a folder as a part of the lent table, where nothing refuses to show them.
 
 #![tactic(auto)]
+
 ghost use Rattle.std.specs.Prelude.{◌≡◌, ◌≤◌};
 ghost use Rattle.paper.specs.Calls.{beneath_refused, beneath_part};
 ghost use Rattle.paper.specs.Devices.{devices};

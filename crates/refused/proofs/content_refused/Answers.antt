@@ -1,6 +1,6 @@
 -- Each return is the first test that refuses, where the content is taken.
-use mathlib.Core.Path.{◌≡◌, refl, sym, ap, ◌∙◌}
-use borrow.Author.Tests.{not-true, not-false, eq-eqb, ne_eqb, lt-ltb, le-ltb}
+use mathlib.Core.Path.{◌≡◌, sym, ap, ◌∙◌}
+use borrow.Author.Tests.{eq-eqb, ne_eqb, lt-ltb, le-ltb}
 use Rattle.paper.specs.Calls.{content_refused, content_if}
 use Rattle.laws.proofs.Refusals.{first_none, first_passed, first_met}
 use Rattle.refused.proofs.content_refused.Goals as goal
@@ -8,11 +8,11 @@ use Rattle.refused.proofs.content_refused.Goals.{Else-not-takes, Start}
 
 -- it is taken
 taken : (c : Else-not-takes) → let s = (goal.at.Else-not-takes c).Start in content_if s.args.takes s.args.content ≡ content_refused s.args.content
-taken c = ap (λ b. content_if b c.args.content) (not-false c.args.takes c.if-not-takes.false)
+taken c = ap (λ b. content_if b c.args.content) c.if-not-takes.false
 
 pub returns-then-not-takes : goal.returns-then-not-takes
 unfolding content_refused
-returns-then-not-takes c = sym (ap (λ b. content_if b c.args.content) (not-true c.args.takes c.if-not-takes.true))
+returns-then-not-takes c = sym (ap (λ b. content_if b c.args.content) c.if-not-takes.true)
 
 pub returns-then-content-gt-MOST_CLASS : goal.returns-then-content-gt-MOST_CLASS
 unfolding content_refused

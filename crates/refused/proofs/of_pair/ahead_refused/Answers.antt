@@ -1,8 +1,6 @@
 -- What refuses both tables comes first; then the row must be a sheet, and the rules say conflict.
 use mathlib.Core.Path.{◌≡◌, sym, ap, ◌∙◌}
 use mathlib.Core.Bool.{false}
-use borrow.Author.Rules.{rules}
-use borrow.Author.Tests.{not-true, not-false}
 use Rattle.paper.specs.Calls.{is_folder, conflicts, ahead_refused}
 use Rattle.paper.specs.Widths.{two_refused_any}
 use Rattle.laws.proofs.Refusals.{first_here, first_next, first_none, first_passed, first_met, first_held, first_failed}
@@ -20,7 +18,7 @@ said : (c : After-ruling_at-said) → ruling_any c.args.source.now c.args.target
 said c = sym (ruling_any_lem _ _ _ _ _ c.columns_of.ensures c.ruling_at-said.ensures)
 
 sheet : (c : Else-is_folder) → is_folder (ruling_any c.args.source.now c.args.target.now c.args.row) ≡ false
-sheet c = ap is_folder (said (search)) ∙ sym c.is_folder.ensures ∙ c.if-is_folder.false
+sheet c = ap is_folder (said (goal.at.Else-is_folder c).After-ruling_at-said) ∙ sym c.is_folder.ensures ∙ c.if-is_folder.false
 
 pub returns-then-number-ne0 : goal.returns-then-number-ne0
 unfolding ahead_refused

@@ -2,7 +2,6 @@
 use Prim.Native.Nat.{◌+◌, ◌*◌, ◌≤◌}
 use mathlib.Core.Path.{◌≡◌, sym, ap, ◌∙◌}
 use native.Mathlib.Omega.{arith}
-use borrow.Author.Rules.{rules}
 use borrow.Author.Tests.{eq-eqb, ne_eqb}
 use lib.ListN.{get_or}
 use Rattle.paper.specs.Tree.{size, subtree}
@@ -24,12 +23,12 @@ none c = sym c.two_refused-number.ensures ∙ c.if-number-ne0.false
 
 -- where the row stands in the target, at the width that was read, and its size
 at : (c : After-columns_of) → Begins c.columns_of.result c.args.target.now c.args.row
-at c = let h = two_at _ _ _ _ c.columns_of.ensures (none (search)) in (begin_both _ _ _ _ h.1 h.0).1
+at c = let h = two_at _ _ _ _ c.columns_of.ensures (none (goal.at.After-columns_of c).Else-number-ne0) in (begin_both _ _ _ _ h.1 h.0).1
 
 sized : (c : After-columns_of)
     → let s = (goal.at.After-columns_of c).Start in size (subtree (table_any s.args.target.now).tree s.args.row) ≡ get_or s.args.target.now ((s.args.row + 1) * wide c.columns_of.result + 1) 0
 sized c =
-    let p = paired _ _ _ _ (widths_none _ _ _ (none (search))).1 in
+    let p = paired _ _ _ _ (widths_none _ _ _ (none (goal.at.After-columns_of c).Else-number-ne0)).1 in
     size_word_lem (width_of c.args.target.now) _ p.target _ p.in_target ∙ ap (λ v. get_or c.args.target.now ((c.args.row + 1) * wide v + 1) 0) (sym c.columns_of.ensures)
 
 few : (c : After-columns_of) → c.columns_of.result ≤ devices

@@ -2,8 +2,7 @@
 use mathlib.Core.Path.{◌≡◌, sym, ap, ◌∙◌}
 use mathlib.Core.Bool.{true, false}
 use native.Mathlib.Omega.{arith}
-use borrow.Author.Rules.{rules}
-use borrow.Author.Tests.{not-true, not-false, eq-eqb, ne_eqb}
+use borrow.Author.Tests.{eq-eqb, ne_eqb}
 use lib.Dec.{eqb}
 use lib.ListN.{get_or}
 use Rattle.paper.specs.Acts.{choice_takes}
@@ -39,10 +38,10 @@ said : (c : After-ruling_at-said) → ruling_any c.args.source.now c.args.target
 said c = sym (ruling_any_lem _ _ _ _ _ c.columns_of.ensures c.ruling_at-said.ensures)
 
 sheet : (c : Else-is_folder) → is_folder (ruling_any c.args.source.now c.args.target.now c.args.row) ≡ false
-sheet c = ap is_folder (said (search)) ∙ sym c.is_folder.ensures ∙ c.if-is_folder.false
+sheet c = ap is_folder (said (goal.at.Else-is_folder c).After-ruling_at-said) ∙ sym c.is_folder.ensures ∙ c.if-is_folder.false
 
 conflict : (c : Else-not-is_conflict) → conflicts (ruling_any c.args.source.now c.args.target.now c.args.row) ≡ true
-conflict c = ap conflicts (said (search)) ∙ sym c.is_conflict.ensures ∙ c.if-not-is_conflict.false
+conflict c = ap conflicts (said (goal.at.Else-not-is_conflict c).After-ruling_at-said) ∙ sym c.is_conflict.ensures ∙ c.if-not-is_conflict.false
 
 -- then only a stamp that can't be made refuses
 last : (c : Else-not-is_conflict)
@@ -50,7 +49,7 @@ last : (c : Else-not-is_conflict)
     ≡ when (eqb (get_or c.args.target.now 1 0) last_count) 15
 unfolding settle_refused table_of
 last c =
-    widths_first _ _ _ _ ∙ first_next _ _ (none (search)) ∙ first_held _ _ (named (search)) ∙ first_next _ _ (held (search)) ∙ first_passed _ _ (sheet (search)) ∙ first_held _ _ (conflict c)
+    widths_first _ _ _ _ ∙ first_next _ _ (none (goal.at.Else-not-is_conflict c).Else-number-ne0) ∙ first_held _ _ (named (goal.at.Else-not-is_conflict c).Else-not-is_one_to_three) ∙ first_next _ _ (held (goal.at.Else-not-is_conflict c).Else-number-ne0-2) ∙ first_passed _ _ (sheet (goal.at.Else-not-is_conflict c).Else-is_folder) ∙ first_held _ _ (conflict c)
     ∙ first_one _
 
 pub returns-then-number-ne0 : goal.returns-then-number-ne0

@@ -2,7 +2,6 @@
 use Prim.Native.Nat.{◌+◌}
 use mathlib.Core.Path.{◌≡◌, sym, ap, ◌∙◌}
 use native.Mathlib.Omega.{arith}
-use borrow.Author.Rules.{rules}
 use borrow.Author.Tests.{eq-eqb, ne_eqb}
 use Rattle.paper.specs.Words.{table_of}
 use Rattle.paper.specs.Check.{check_of}
@@ -25,7 +24,7 @@ one_width : (c : Else-columns_of-columns) → width_of c.args.source.now ≡ wid
 one_width c = sym c.columns_of.ensures ∙ c.if-columns_of-columns.false ∙ c.columns_of-columns.ensures
 
 source_at : (c : Else-columns_of-columns) → let s = (goal.at.Else-columns_of-columns c).Start in check_of (width_of s.args.target.now) s.args.source.now ≡ 0
-source_at c = ap (λ v. check_of v c.args.source.now) (sym (one_width c)) ∙ source (search)
+source_at c = ap (λ v. check_of v c.args.source.now) (sym (one_width c)) ∙ source (goal.at.Else-columns_of-columns c).Else-number-ne0
 
 pub returns-then-number-ne0 : goal.returns-then-number-ne0
 returns-then-number-ne0 c = let e = c.check-number.ensures in e ∙ sym (widths_chain _ _ _ ∙ first_here _ _ (λ z. c.if-number-ne0.true (e ∙ z)))
@@ -44,7 +43,7 @@ returns-then-columns_of-columns c =
 pub unlike-requires : goal.unlike-requires
 unlike-requires c =
     let e = c.columns_of-columns.ensures in
-    (ap (λ v. check_of v c.args.source.now) e ∙ source_at (goal.at.unlike-requires c).Else-columns_of-columns, ap (λ v. check_of v c.args.target.now) e ∙ target (goal.at.unlike-requires c).Else-number-ne0-2, read_few _ c.args.target.now e)
+    (ap (λ v. check_of v c.args.source.now) e ∙ source_at c, ap (λ v. check_of v c.args.target.now) e ∙ target (goal.at.unlike-requires c).Else-number-ne0-2, read_few _ c.args.target.now e)
 
 pub returns : goal.returns
 unfolding two_refused

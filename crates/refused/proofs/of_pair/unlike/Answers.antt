@@ -2,8 +2,7 @@
 use mathlib.Core.Bool.{true, false}
 use mathlib.Core.Path.{◌≡◌, sym, ap, ap₂, ◌∙◌}
 use native.Mathlib.Omega.{arith}
-use borrow.Author.Rules.{rules}
-use borrow.Author.Tests.{not-true, not-false, eq-eqb, ne_eqb}
+use borrow.Author.Tests.{eq-eqb, ne_eqb}
 use lib.Dec.{eqb, leb}
 use Rattle.paper.specs.Tree.{size, shaped, later}
 use Rattle.paper.specs.Words.{Table, table_of}
@@ -33,19 +32,19 @@ same : (c : Else-not-same_shape) → let s = (goal.at.Else-not-same_shape c).Sta
 same c = sym c.same_shape.ensures ∙ c.if-not-same_shape.false
 
 apart : (c : Else-a-b) → let s = (goal.at.Else-a-b c).Start in eqb (a s).clock.device (b s).clock.device ≡ false
-apart c = ap₂ (λ (x y : Clock). eqb x.device y.device) (sym (clock_a (search))) (sym (clock_b (search))) ∙ ne_eqb _ _ c.if-a-b.false
+apart c = ap₂ (λ (x y : Clock). eqb x.device y.device) (sym (clock_a (goal.at.Else-a-b c).After-clock_of-a)) (sym (clock_b (goal.at.Else-a-b c).After-clock_of-b)) ∙ ne_eqb _ _ c.if-a-b.false
 
 six : (c : After-names_later) → let s = (goal.at.After-names_later c).Start in later (b s).clock (a s).tree ≡ c.names_later.result
-six c = let s = (goal.at.After-names_later c).Start in ap (λ (x : Clock). later x (a s).tree) (sym (clock_b (search))) ∙ sym c.names_later.ensures
+six c = let s = (goal.at.After-names_later c).Start in ap (λ (x : Clock). later x (a s).tree) (sym (clock_b (goal.at.After-names_later c).After-clock_of-b)) ∙ sym c.names_later.ensures
 
 seven : (c : After-names_later-2) → let s = (goal.at.After-names_later-2 c).Start in later (a s).clock (b s).tree ≡ c.names_later-2.result
-seven c = let s = (goal.at.After-names_later-2 c).Start in ap (λ (x : Clock). later x (b s).tree) (sym (clock_a (search))) ∙ sym c.names_later-2.ensures
+seven c = let s = (goal.at.After-names_later-2 c).Start in ap (λ (x : Clock). later x (b s).tree) (sym (clock_a (goal.at.After-names_later-2 c).After-clock_of-a)) ∙ sym c.names_later-2.ensures
 
 -- what is left once the tables are accepted
 row_left : (c : Else-names_later-2) → let s = (goal.at.Else-names_later-2 c).Start in unlike (a s) (b s) c.args.row ≡ when (leb (size (b s).tree) c.args.row) 8
 unfolding unlike
 row_left c =
-    first_held _ _ (same (search)) ∙ first_passed _ _ (apart (search)) ∙ first_passed _ _ (six (search) ∙ c.if-names_later.false) ∙ first_passed _ _ (seven (search) ∙ c.if-names_later-2.false) ∙ first_one _
+    first_held _ _ (same (goal.at.Else-names_later-2 c).Else-not-same_shape) ∙ first_passed _ _ (apart (goal.at.Else-names_later-2 c).Else-a-b) ∙ first_passed _ _ (six (goal.at.Else-names_later-2 c).After-names_later ∙ c.if-names_later.false) ∙ first_passed _ _ (seven (goal.at.Else-names_later-2 c).After-names_later-2 ∙ c.if-names_later-2.false) ∙ first_one _
 
 pub returns-then-not-same_shape : goal.returns-then-not-same_shape
 unfolding unlike

@@ -2,7 +2,6 @@
 use Prim.Native.Nat.{◌+◌, ◌*◌, ◌≤◌, ◌<◌}
 use mathlib.Core.Path.{◌≡◌, sym, ap, ◌∙◌}
 use native.Mathlib.Omega.{arith}
-use borrow.Author.Rules.{rules}
 use borrow.Author.Tests.{eq-eqb, ne_eqb}
 use lib.Dec.{eqb}
 use lib.ListN.{get_or}
@@ -33,13 +32,13 @@ few : (c : After-columns_of) → c.columns_of.result ≤ devices
 few c = read_few _ c.args.table.now c.columns_of.ensures
 
 at : (c : After-columns_of) → let s = (goal.at.After-columns_of c).Start in Begins c.columns_of.result s.args.table.now s.args.row
-at c = begins _ _ _ (few c) (ap (λ v. check_of v c.args.table.now) c.columns_of.ensures ∙ checked (search)) (there (search))
+at c = begins _ _ _ (few c) (ap (λ v. check_of v c.args.table.now) c.columns_of.ensures ∙ checked (goal.at.After-columns_of c).Else-number-ne0) (there (goal.at.After-columns_of c).Else-table-row)
 
 kind : (c : After-columns_of)
     → let s = (goal.at.After-columns_of c).Start in is_folder (sheet_here (subtree (table_any s.args.table.now).tree s.args.row)) ≡ eqb (get_or s.args.table.now ((s.args.row + 1) * wide c.columns_of.result) 0) 3
 kind c =
     let t = c.args.table.now in
-    sym (ap (λ v. eqb (get_or t ((c.args.row + 1) * wide v) 0) 3) c.columns_of.ensures ∙ folder_word (width_of t) t (checked (search)) _ (there (search)))
+    sym (ap (λ v. eqb (get_or t ((c.args.row + 1) * wide v) 0) 3) c.columns_of.ensures ∙ folder_word (width_of t) t (checked (goal.at.After-columns_of c).Else-number-ne0) _ (there (goal.at.After-columns_of c).Else-table-row))
 
 pub returns-then-number-ne0 : goal.returns-then-number-ne0
 unfolding beneath_refused

@@ -1,6 +1,5 @@
 -- What refuses both tables comes first; then the row must be a sheet.
 use mathlib.Core.Path.{◌≡◌, sym, ap, ◌∙◌}
-use borrow.Author.Rules.{rules}
 use Rattle.paper.specs.Calls.{is_folder, standing_refused}
 use Rattle.paper.specs.Widths.{two_refused_any}
 use Rattle.laws.proofs.Refusals.{first_here, first_next, first_none, first_passed, first_met}

@@ -3,8 +3,7 @@ use Prim.Native.Nat.{◌+◌, ◌*◌, ◌≤◌, ◌<◌}
 use mathlib.Core.Path.{◌≡◌, sym, ap, ◌∙◌}
 use mathlib.Core.Bool.{true, false, cond}
 use native.Mathlib.Omega.{arith}
-use borrow.Author.Rules.{rules}
-use borrow.Author.Tests.{not-true, not-false, eq-eqb, ne_eqb}
+use borrow.Author.Tests.{eq-eqb, ne_eqb}
 use lib.Dec.{eqb}
 use lib.ListN.{get_or}
 use Rattle.paper.specs.Tree.{subtree, sheet_here}
@@ -48,14 +47,14 @@ few : (c : After-columns_of) → c.columns_of.result ≤ devices
 few c = read_few _ c.args.table.now c.columns_of.ensures
 
 at : (c : After-columns_of) → let s = (goal.at.After-columns_of c).Start in Begins c.columns_of.result s.args.table.now s.args.row
-at c = begins _ _ _ (few c) (ap (λ v. check_of v c.args.table.now) c.columns_of.ensures ∙ checked (search)) (there (search))
+at c = begins _ _ _ (few c) (ap (λ v. check_of v c.args.table.now) c.columns_of.ensures ∙ checked (goal.at.After-columns_of c).Else-number-ne0) (there (goal.at.After-columns_of c).Else-table-row)
 
 fitting : (c : After-fits_kind)
     → let s = (goal.at.After-fits_kind c).Start in fits_sheet (event_named s.args.event) (sheet_here (subtree (table_any s.args.table.now).tree s.args.row)) ≡ c.fits_kind.result
 fitting c =
     let k = (goal.at.After-fits_kind c).After-columns_of in let t = c.args.table.now in
     let e = event_named c.args.event in
-    fits_row (width_of t) t (checked (search)) e c.args.row (there (search))
+    fits_row (width_of t) t (checked (goal.at.After-fits_kind c).Else-number-ne0) e c.args.row (there (goal.at.After-fits_kind c).Else-table-row)
     ∙ ap (λ v. let k = get_or t ((c.args.row + 1) * wide v) 0 in cond (eqb k 3) false (fits e (kind_of k))) (sym k.columns_of.ensures) ∙ sym c.fits_kind.ensures
 
 -- then only the last count refuses
@@ -64,9 +63,9 @@ last : (c : Else-not-fits_kind)
     search in event_refused (width_of s.args.table.now) s.args.table.now s.args.row s.args.event s.args.content ≡ when (eqb (get_or s.args.table.now 1 0) last_count) 15
 unfolding event_refused table_of
 last c =
-    let e = checked (search) in
-    first_next _ _ e ∙ first_held _ _ (named (search)) ∙ first_next _ _ (held (search)) ∙ first_passed _ _ (row_there _ _ e _ (there (search)))
-    ∙ first_held _ _ (fitting (search) ∙ c.if-not-fits_kind.false) ∙ first_one _
+    let e = checked (goal.at.Else-not-fits_kind c).Else-number-ne0 in
+    first_next _ _ e ∙ first_held _ _ (named (goal.at.Else-not-fits_kind c).Else-not-is_one_to_three) ∙ first_next _ _ (held (goal.at.Else-not-fits_kind c).Else-number-ne0-2) ∙ first_passed _ _ (row_there _ _ e _ (there (goal.at.Else-not-fits_kind c).Else-table-row))
+    ∙ first_held _ _ (fitting (goal.at.Else-not-fits_kind c).After-fits_kind ∙ c.if-not-fits_kind.false) ∙ first_one _
 
 pub returns-then-number-ne0 : goal.returns-then-number-ne0
 unfolding event_refused

@@ -3,8 +3,7 @@ use Prim.Native.Nat.{◌*◌, ◌≤◌}
 use mathlib.Core.Path.{◌≡◌, sym, ◌∙◌}
 use mathlib.Core.Bool.{false}
 use native.Mathlib.Omega.{arith}
-use borrow.Author.Rules.{rules}
-use borrow.Author.Tests.{not-true, not-false, eq-eqb, ne_eqb, le-leb, lt-leb}
+use borrow.Author.Tests.{eq-eqb, ne_eqb, le-leb, lt-leb}
 use lib.Dec.{leb}
 use lib.ListN.{length}
 use Rattle.paper.specs.Words.{wide}
@@ -26,7 +25,7 @@ plan c = sym (c.plan_fits.ensures _)
 
 small : (c : Else-not-plan_fits) → let s = (goal.at.Else-not-plan_fits c).Start in length s.args.plan.now * wide s.args.columns ≤ most_rows * wide devices
 small c =
-    words_small (length c.args.plan.now) (wide c.args.columns) (plan_few c.args.columns _ (plan (search) ∙ c.if-not-plan_fits.false)) (omega (arith, c.requires))
+    words_small (length c.args.plan.now) (wide c.args.columns) (plan_few c.args.columns _ (plan (goal.at.Else-not-plan_fits c).After-plan_fits ∙ c.if-not-plan_fits.false)) (omega (arith, c.requires))
 
 pub returns-then-columns-device : goal.returns-then-columns-device
 unfolding new_refused

@@ -8,10 +8,10 @@ use native.Mathlib.Nat.{add-mul, mul-le-mul_right}
 use lib.Dec.{ltb}
 use borrow.Author.Tests.{ltb-true, ltb-false, leb-false}
 use lib.ListN.{length, get_or, take, drop, length-take}
-use Rattle.paper.specs.Tree.{Forest, end, sheet, folder, size, subtree, sheet_here}
+use Rattle.paper.specs.Tree.{Forest, end, sheet, folder, size, subtree}
 use Rattle.paper.specs.Words.{wide, table_of}
 use Rattle.paper.specs.Check.{check_of}
-use Rattle.paper.specs.Calls.{Answered, is_folder, beneath_refused, beneath_part, beneath_of}
+use Rattle.paper.specs.Calls.{Answered, beneath_refused, beneath_part, beneath_of}
 use Rattle.laws.proofs.Refusals.{first_both, when_none, unless_none, unless_some}
 use Rattle.laws.proofs.Forests.{subtree_fits}
 use Rattle.laws.proofs.Tables.{check_facts, checked_size}

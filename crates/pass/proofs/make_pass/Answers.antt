@@ -11,7 +11,6 @@ use Rattle.paper.specs.Calls.{pass_done}
 use Rattle.walk.specs.Parts.{Passed}
 use Rattle.mend.proofs.PutInPlace.{Changed, siblings, same_long}
 use Rattle.pass.proofs.PassedWords.{Begun, Room, both, single_both, accepted, pass_room, pass_fits, pass_begins, count_few, pass_changed, passed_all}
-use borrow.Author.Rules.{rules}
 use Rattle.pass.proofs.make_pass.Goals as goal
 use Rattle.pass.proofs.make_pass.Goals.{After-above_row-ua, After-above_row-ub, After-clock_of-a, After-clock_of-b, After-pass_row-looked, Start}
 
@@ -35,9 +34,9 @@ begun c =
 
 -- the rows walked
 walked : (c : After-pass_row-looked)
-    → let s = (goal.at.After-pass_row-looked c).Start in let back = c.pass_row-looked.new.1 in
+    → let s = (goal.at.After-pass_row-looked c).Start in let back = c.pass_row-looked.new in
     Passed s.args.columns c.clock_of-a.result c.clock_of-b.result (both s.args.columns _ _ _ _ s.requires.0) (vec c.above_row-ua.result.0)
-    (vec c.above_row-ub.result.0) back.0 back.1.0 c.pass_row-looked.result
+    (vec c.above_row-ub.result.0) back.target back.answers c.pass_row-looked.result
 walked c =
     let w = c.args.columns in
     let e = c.requires.0 in
@@ -115,7 +114,7 @@ pub overflow_cast-result : goal.overflow_cast-result
 overflow_cast-result c = omega (arith, count_few c.args.columns _ _ _ _ c.requires.0 (begun (goal.at.overflow_cast-result c).After-above_row-ub) (walked (goal.at.overflow_cast-result c).After-pass_row-looked))
 
 pub shape_of-target : goal.shape_of-target
-shape_of-target c = let m = c.mend_above in same_long (done (goal.at.shape_of-target c).After-pass_row-looked) m.new.0 m.auto.0
+shape_of-target c = let m = c.mend_above in same_long (done (goal.at.shape_of-target c).After-pass_row-looked) m.new.t m.auto.t
 
 pub shape_of-answers : goal.shape_of-answers
 shape_of-answers c = c.pass_row-looked.auto.answers
@@ -123,4 +122,4 @@ shape_of-answers c = c.pass_row-looked.auto.answers
 pub returns : goal.returns
 returns c =
     let k = (goal.at.returns c).After-pass_row-looked in let m = c.mend_above in
-    passed_all c.args.columns _ _ _ _ c.requires.0 (begun (goal.at.returns c).After-above_row-ub) (walked k) _ ((done k).all m.new.0 m.ensures)
+    passed_all c.args.columns _ _ _ _ c.requires.0 (begun (goal.at.returns c).After-above_row-ub) (walked k) _ ((done k).all m.new.t m.ensures)

@@ -69,4 +69,4 @@ pub slice_bounds-result-end : goal.slice_bounds-result-end
 slice_bounds-result-end c = omega (arith, room (goal.at.slice_bounds-result-end c).Start)
 
 pub returns : goal.returns
-returns c = (beneath_cut _ _ _ c.requires.0, beneath_lies _ _ _ c.requires.0 c.args.table.ptr)
+returns c = (beneath_cut _ _ _ c.requires.0, beneath_lies _ _ _ c.requires.0 c.args.table.ref_ptr)

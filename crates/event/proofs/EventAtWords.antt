@@ -1,5 +1,5 @@
 -- An event at the words: what it needs of the table, and the words afterwards.
-use Prim.Native.Nat.{ℕ, ◌+◌, ◌-◌, ◌*◌, ◌≤◌, ◌<◌}
+use Prim.Native.Nat.{ℕ, ◌+◌, ◌*◌, ◌≤◌, ◌<◌}
 use mathlib.Core.Path.{◌≡◌, refl, ap₂, ◌∙◌}
 use mathlib.Core.Bool.{true, false≢true}
 use mathlib.Core.List.{List}

@@ -113,7 +113,8 @@ module _ (w : ℕ) (a b : Table) (row : ℕ) (list : List ℕ) (out : Passed) (a
       pass_folder j l f
       ∙ ap (λ z. cond (beneath_five (subtree b.tree row) out.answers j || z) 5 4)
       (empty_first w a.clock b.clock (above a.tree (row + j)) (above b.tree (row + j)) (pair_at a b (row + j))
-      (sym (same (sheet_here (pair_at a b (row + j)))) ∙ ap is_folder (sym (mapped_here _ _ (pair_at a b (row + j))) ∙ ap sheet_here side) ∙ f) (sym (right_size (pair_at a b (row + j))) ∙ ap size side ∙ e))
+      (sym (same (sheet_here (pair_at a b (row + j)))) ∙ ap is_folder (sym (mapped_here _ _ (pair_at a b (row + j))) ∙ ap sheet_here side) ∙ f)
+      (sym (right_size (pair_at a b (row + j))) ∙ ap size side ∙ e))
       ∙ always (beneath_five (subtree b.tree row) out.answers j)
     where
       side : right (pair_at a b (row + j)) ≡ subtree b.tree (row + j)

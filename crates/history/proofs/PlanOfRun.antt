@@ -40,7 +40,8 @@ eight_nine n true y e = inr (inl e)
 eight_nine n false true e = inr (inr e)
 eight_nine n false false e = inl e
 
-pass_two : (w : ℕ) (s t : List ℕ) (row : ℕ) (list : List ℕ) → pass_refused w s t row list ≡ first (two_refused w s t row ∷ when (not (eqb (length list) (size (subtree (table_of w t).tree row)))) 9 ∷ [])
+pass_two : (w : ℕ) (s t : List ℕ) (row : ℕ) (list : List ℕ)
+    → pass_refused w s t row list ≡ first (two_refused w s t row ∷ when (not (eqb (length list) (size (subtree (table_of w t).tree row)))) 9 ∷ [])
 unfolding pass_refused
 pass_two w s t row list = refl
 

@@ -86,9 +86,11 @@ module _ (w : ℕ) (t : List ℕ) (e : check_of w t ≡ 0) (row : ℕ) (h : row 
       go false r = cc
 
 -- THE RULING AT A ROW of two tables of one shape, by the two rows' words and their known times
-module _ (w : ℕ) (s t : List ℕ) (p : check_of w s ≡ 0) (q : check_of w t ≡ 0) (row : ℕ) (hs : row < get_or s 2 0) (ht : row < get_or t 2 0) (e : shaped (table_of w s).tree (table_of w t).tree ≡ true) where
+module _ (w : ℕ) (s t : List ℕ) (p : check_of w s ≡ 0) (q : check_of w t ≡ 0) (row : ℕ) (hs : row < get_or s 2 0) (ht : row < get_or t 2 0)
+    (e : shaped (table_of w s).tree (table_of w t).tree ≡ true) where
   pub ruling_none : kind_word (row_at w t row) ≡ 3 → none ≡ ruling_here (table_of w s) (table_of w t) row
-  ruling_none k = folder_none (ruling_here (table_of w s) (table_of w t) row) (ruling_folder (table_of w s) (table_of w t) row e ∙ folder_row_lem w t q row ht ∙ eq-eqb (kind_word (row_at w t row)) 3 k)
+  ruling_none k =
+      folder_none (ruling_here (table_of w s) (table_of w t) row) (ruling_folder (table_of w s) (table_of w t) row e ∙ folder_row_lem w t q row ht ∙ eq-eqb (kind_word (row_at w t row)) 3 k)
 
   -- of a sheet, the pair has what the two rows' words say
   pair_some : (kind_word (row_at w t row) ≡ 3 → ⊥) → sheet_here (pair_at (table_of w s) (table_of w t) row) ≡ some (record { a = sheet_of w (row_at w s row); b = sheet_of w (row_at w t row) })

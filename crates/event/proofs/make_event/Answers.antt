@@ -10,7 +10,6 @@ use Rattle.order.proofs.RowPlaces.{Begins, begins}
 use Rattle.mend.proofs.PutInPlace.{Changed, siblings, same_long}
 use Rattle.mend.proofs.SheetInPlace.{put_row}
 use Rattle.event.proofs.EventAtWords.{EventFits, Room, event_facts, event_room, event_changed}
-use borrow.Author.Rules.{rules}
 use Rattle.event.proofs.make_event.Goals as goal
 use Rattle.event.proofs.make_event.Goals.{After-ticking-ticked, After-write_event, Start}
 

@@ -2,7 +2,6 @@
 use lib.ListN.{length-set}
 use native.Mathlib.Omega.{arith}
 use mathlib.Core.Path.{sym}
-use borrow.Author.Rules.{rules}
 use Rattle.event.specs.EventWords.{event_words}
 use Rattle.event.proofs.EventAtWords.{event_one, event_two, event_three}
 use Rattle.event.proofs.write_event.Goals as goal

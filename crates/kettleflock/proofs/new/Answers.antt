@@ -43,4 +43,5 @@ shape_of-table c = c.write_table.auto.t
 
 pub returns : goal.returns
 returns c =
-    ap (changed (done (length c.args.plan.now))) c.write_table.ensures ∙ sym (new_width _ _ _ _ (width (goal.at.returns c).Else-not-is_width) ∙ new_done _ _ _ _ (none (goal.at.returns c).Else-number-ne0))
+    ap (changed (done (length c.args.plan.now))) c.write_table.ensures
+    ∙ sym (new_width _ _ _ _ (width (goal.at.returns c).Else-not-is_width) ∙ new_done _ _ _ _ (none (goal.at.returns c).Else-number-ne0))

@@ -28,7 +28,10 @@ b s = table_of s.args.columns s.args.target.now
 
 -- the clocks and the floors above, as they were read
 begun : (c : After-above_row-ub)
-    → let s = (goal.at.After-above_row-ub c).Start in let ca = (goal.at.After-above_row-ub c).After-clock_of-a in let cb = (goal.at.After-above_row-ub c).After-clock_of-b in let ua = (goal.at.After-above_row-ub c).After-above_row-ua in Begun (a s) (b s) c.args.row ca.clock_of-a.result cb.clock_of-b.result (vec ua.above_row-ua.result.0) (vec c.above_row-ub.result.0)
+    → let s =
+    (goal.at.After-above_row-ub c).Start in let ca = (goal.at.After-above_row-ub c).After-clock_of-a in let cb = (goal.at.After-above_row-ub c).After-clock_of-b in
+    let ua = (goal.at.After-above_row-ub c).After-above_row-ua in
+    Begun (a s) (b s) c.args.row ca.clock_of-a.result cb.clock_of-b.result (vec ua.above_row-ua.result.0) (vec c.above_row-ub.result.0)
 begun c =
     record { source = c.clock_of-a.ensures _; target = c.clock_of-b.ensures _; above_a = c.above_row-ua.ensures; above_b = c.above_row-ub.ensures }
 
@@ -111,7 +114,8 @@ mend_above-requires c =
     let y = siblings (done (goal.at.mend_above-requires c).After-pass_row-looked) in record { siblings = y.0; columns_in_bounds = (y.1, c.requires.1) }
 
 pub overflow_cast-result : goal.overflow_cast-result
-overflow_cast-result c = omega (arith, count_few c.args.columns _ _ _ _ c.requires.0 (begun (goal.at.overflow_cast-result c).After-above_row-ub) (walked (goal.at.overflow_cast-result c).After-pass_row-looked))
+overflow_cast-result c =
+    omega (arith, count_few c.args.columns _ _ _ _ c.requires.0 (begun (goal.at.overflow_cast-result c).After-above_row-ub) (walked (goal.at.overflow_cast-result c).After-pass_row-looked))
 
 pub shape_of-target : goal.shape_of-target
 shape_of-target c = let m = c.mend_above in same_long (done (goal.at.shape_of-target c).After-pass_row-looked) m.new.t m.auto.t

@@ -20,7 +20,8 @@ returns-then-content-gt-MOST_CLASS c = sym (taken (goal.at.returns-then-content-
 
 pub returns-then-content-eq0 : goal.returns-then-content-eq0
 unfolding content_refused
-returns-then-content-eq0 c = sym (taken (goal.at.returns-then-content-eq0 c).Else-not-takes ∙ first_passed _ _ (le-ltb _ _ c.if-content-gt-MOST_CLASS.false) ∙ first_met 21 _ (eq-eqb _ _ c.if-content-eq0.true))
+returns-then-content-eq0 c =
+    sym (taken (goal.at.returns-then-content-eq0 c).Else-not-takes ∙ first_passed _ _ (le-ltb _ _ c.if-content-gt-MOST_CLASS.false) ∙ first_met 21 _ (eq-eqb _ _ c.if-content-eq0.true))
 
 pub returns : goal.returns
 unfolding content_refused

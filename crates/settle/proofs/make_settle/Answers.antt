@@ -11,7 +11,6 @@ use Rattle.two.proofs.TwoTables.{Room, Paired, paired, two_room}
 use Rattle.mend.proofs.PutInPlace.{Changed, siblings, same_long}
 use Rattle.mend.proofs.SheetInPlace.{put_row}
 use Rattle.settle.proofs.SettlingAtWords.{SettleFits, settle_facts, settle_changed}
-use borrow.Author.Rules.{rules}
 use Rattle.settle.proofs.make_settle.Goals as goal
 use Rattle.settle.proofs.make_settle.Goals.{After-settle_row-ticked, Start}
 
@@ -33,7 +32,8 @@ done : (c : After-settle_row-ticked) → (let a = c.args in
     (settle_done (table_of a.columns a.source.now) (table_of a.columns a.target.now) a.row (choice_named a.choice) a.content))
 unfolding table_of
 done c =
-    let s = (goal.at.After-settle_row-ticked c).Start in settle_changed _ _ _ _ _ _ (fits s) _ c.settle_row-ticked.new.r c.settle_row-ticked.result c.known_time-known.ensures c.settle_row-ticked.ensures
+    let s = (goal.at.After-settle_row-ticked c).Start in
+    settle_changed _ _ _ _ _ _ (fits s) _ c.settle_row-ticked.new.r c.settle_row-ticked.result c.known_time-known.ensures c.settle_row-ticked.ensures
 
 pub overflow_mul-width : goal.overflow_mul-width
 overflow_mul-width c = omega (arith, few (goal.at.overflow_mul-width c).Start)
@@ -75,7 +75,11 @@ slice_bounds-settle_row-end-2 c = let s = (goal.at.slice_bounds-settle_row-end-2
 pub settle_row-ticked-requires : goal.settle_row-ticked-requires
 unfolding table_of
 settle_row-ticked-requires c =
-    let s = (goal.at.settle_row-ticked-requires c).Start in record { columns_in_bounds = (simp (length-take, length-drop) (omega (arith, room s)), simp (length-take, length-drop) (omega (arith, room s)), c.requires.1); device_lt_columns = ((check_facts c.args.columns _ (both s).target).head.device, omega (arith, (fits s).room, c.slice_known-3-1.given 1)) }
+    let s = (goal.at.settle_row-ticked-requires c).Start in
+    record {
+      columns_in_bounds = (simp (length-take, length-drop) (omega (arith, room s)), simp (length-take, length-drop) (omega (arith, room s)), c.requires.1);
+      device_lt_columns = ((check_facts c.args.columns _ (both s).target).head.device, omega (arith, (fits s).room, c.slice_known-3-1.given 1));
+    }
 
 pub bounds-target-1-2 : goal.bounds-target-1-2
 bounds-target-1-2 c = omega (arith, simp length-set at (done (goal.at.bounds-target-1-2 c).After-settle_row-ticked).room)

@@ -1,7 +1,6 @@
 -- Choice by choice.
 use mathlib.Core.Path.{◌∙◌}
 use Rattle.settle.proofs.SettlingAtWords.{chosen_theirs, chosen_own, chosen_new}
-use borrow.Author.Rules.{rules}
 use Rattle.settle.proofs.write_chosen.Goals as goal
 
 pub returns-then-choice-eq-THEIRS : goal.returns-then-choice-eq-THEIRS

@@ -4,7 +4,6 @@ use native.Mathlib.Omega.{arith}
 use lib.ListN.{length-set}
 use borrow.Author.Tests.{eq-eqb, ne_eqb}
 use Rattle.settle.specs.SettledWords.{new_words}
-use borrow.Author.Rules.{rules}
 use Rattle.settle.proofs.write_new.Goals as goal
 
 pub bounds-r-7 : goal.bounds-r-7

@@ -14,7 +14,8 @@ none c = sym c.settle_refused-number.ensures ∙ c.if-number-ne0.false
 none_at : (c : After-columns_of-columns)
     → let s = (goal.at.After-columns_of-columns c).Start in settle_refused c.columns_of-columns.result s.args.source.now s.args.target.now s.args.row s.args.choice s.args.content ≡ 0
 none_at c =
-    ap (λ v. settle_refused v c.args.source.now c.args.target.now c.args.row c.args.choice c.args.content) c.columns_of-columns.ensures ∙ (widths_none _ _ _ (none (goal.at.After-columns_of-columns c).Else-number-ne0)).1
+    ap (λ v. settle_refused v c.args.source.now c.args.target.now c.args.row c.args.choice c.args.content) c.columns_of-columns.ensures
+    ∙ (widths_none _ _ _ (none (goal.at.After-columns_of-columns c).Else-number-ne0)).1
 
 pub returns-then-number-ne0 : goal.returns-then-number-ne0
 returns-then-number-ne0 c = settle_any_not _ _ _ _ _ _ c.settle_refused-number.ensures c.if-number-ne0.true

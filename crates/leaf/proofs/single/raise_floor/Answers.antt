@@ -26,7 +26,8 @@ pub returns-then-columns-eq-COLUMNS : goal.returns-then-columns-eq-COLUMNS
 returns-then-columns-eq-COLUMNS c = at_start (goal.at.returns-then-columns-eq-COLUMNS c).Start c.if-columns-eq-COLUMNS.true c.raise_floor.ensures
 
 pub raise_floor-requires-2 : goal.raise_floor-requires-2
-raise_floor-requires-2 c = let e = sixteen (goal.at.raise_floor-requires-2 c).Else-columns-eq-COLUMNS in (omega (arith, c.requires.columns_in_bounds.0, e), omega (arith, c.requires.columns_in_bounds.1, e))
+raise_floor-requires-2 c =
+    let e = sixteen (goal.at.raise_floor-requires-2 c).Else-columns-eq-COLUMNS in (omega (arith, c.requires.columns_in_bounds.0, e), omega (arith, c.requires.columns_in_bounds.1, e))
 
 pub returns : goal.returns
 returns c = at_start (goal.at.returns c).Start (sixteen (goal.at.returns c).Else-columns-eq-COLUMNS) c.raise_floor-2.ensures

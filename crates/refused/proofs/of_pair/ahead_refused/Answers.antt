@@ -31,7 +31,8 @@ ruling_at-said-requires c = two_at _ _ _ _ c.columns_of.ensures (none (goal.at.r
 pub returns-then-is_folder : goal.returns-then-is_folder
 unfolding ahead_refused
 returns-then-is_folder c =
-    sym (widths_first _ _ _ _ ∙ first_next _ _ (none (goal.at.returns-then-is_folder c).Else-number-ne0) ∙ first_met 9 _ (ap is_folder (said (goal.at.returns-then-is_folder c).After-ruling_at-said) ∙ sym c.is_folder.ensures ∙ c.if-is_folder.true))
+    sym (widths_first _ _ _ _ ∙ first_next _ _ (none (goal.at.returns-then-is_folder c).Else-number-ne0)
+    ∙ first_met 9 _ (ap is_folder (said (goal.at.returns-then-is_folder c).After-ruling_at-said) ∙ sym c.is_folder.ensures ∙ c.if-is_folder.true))
 
 pub returns-then-not-is_conflict : goal.returns-then-not-is_conflict
 unfolding ahead_refused

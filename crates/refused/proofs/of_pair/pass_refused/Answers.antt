@@ -68,8 +68,12 @@ overflow_cast-target c = omega (arith, c.shared_slice_known-4-1.given ((c.args.r
 
 pub returns-then-answers-target : goal.returns-then-answers-target
 unfolding pass_refused
-returns-then-answers-target c = sym (widths_first _ _ _ _ ∙ first_next _ _ (none (goal.at.returns-then-answers-target c).Else-number-ne0) ∙ first_failed 8 _ (ne_eqb _ _ (λ z. c.if-answers-target.true (z ∙ sized (goal.at.returns-then-answers-target c).After-columns_of))))
+returns-then-answers-target c =
+    sym (widths_first _ _ _ _ ∙ first_next _ _ (none (goal.at.returns-then-answers-target c).Else-number-ne0)
+    ∙ first_failed 8 _ (ne_eqb _ _ (λ z. c.if-answers-target.true (z ∙ sized (goal.at.returns-then-answers-target c).After-columns_of))))
 
 pub returns : goal.returns
 unfolding pass_refused
-returns c = sym (widths_first _ _ _ _ ∙ first_next _ _ (none (goal.at.returns c).Else-number-ne0) ∙ first_held _ _ (eq-eqb _ _ (c.if-answers-target.false ∙ sym (sized (goal.at.returns c).After-columns_of))) ∙ first_none)
+returns c =
+    sym (widths_first _ _ _ _ ∙ first_next _ _ (none (goal.at.returns c).Else-number-ne0)
+    ∙ first_held _ _ (eq-eqb _ _ (c.if-answers-target.false ∙ sym (sized (goal.at.returns c).After-columns_of))) ∙ first_none)

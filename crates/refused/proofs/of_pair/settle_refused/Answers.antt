@@ -15,7 +15,8 @@ use Rattle.laws.proofs.Widths.{widths_first, two_at, ruling_any, ruling_any_lem}
 use Rattle.two.proofs.TwoTables.{begin_both}
 use Rattle.verdict.specs.SaidOf.{said_of}
 use Rattle.refused.proofs.of_pair.settle_refused.Goals as goal
-use Rattle.refused.proofs.of_pair.settle_refused.Goals.{After-content_refused-number, After-ruling_at-said, Else-is_folder, Else-not-is_conflict, Else-not-is_one_to_three, Else-number-ne0, Else-number-ne0-2, Start}
+use Rattle.refused.proofs.of_pair.settle_refused.Goals.{After-content_refused-number, After-ruling_at-said, Else-is_folder, Else-not-is_conflict}
+use Rattle.refused.proofs.of_pair.settle_refused.Goals.{Else-not-is_one_to_three, Else-number-ne0, Else-number-ne0-2, Start}
 
 -- nothing refuses the two tables
 none : (c : Else-number-ne0) → two_refused_any c.args.source.now c.args.target.now c.args.row ≡ 0
@@ -49,7 +50,8 @@ last : (c : Else-not-is_conflict)
     ≡ when (eqb (get_or c.args.target.now 1 0) last_count) 15
 unfolding settle_refused table_of
 last c =
-    widths_first _ _ _ _ ∙ first_next _ _ (none (goal.at.Else-not-is_conflict c).Else-number-ne0) ∙ first_held _ _ (named (goal.at.Else-not-is_conflict c).Else-not-is_one_to_three) ∙ first_next _ _ (held (goal.at.Else-not-is_conflict c).Else-number-ne0-2) ∙ first_passed _ _ (sheet (goal.at.Else-not-is_conflict c).Else-is_folder) ∙ first_held _ _ (conflict c)
+    widths_first _ _ _ _ ∙ first_next _ _ (none (goal.at.Else-not-is_conflict c).Else-number-ne0) ∙ first_held _ _ (named (goal.at.Else-not-is_conflict c).Else-not-is_one_to_three)
+    ∙ first_next _ _ (held (goal.at.Else-not-is_conflict c).Else-number-ne0-2) ∙ first_passed _ _ (sheet (goal.at.Else-not-is_conflict c).Else-is_folder) ∙ first_held _ _ (conflict c)
     ∙ first_one _
 
 pub returns-then-number-ne0 : goal.returns-then-number-ne0
@@ -58,13 +60,15 @@ returns-then-number-ne0 c = let e = c.two_refused-number.ensures in e ∙ sym (w
 
 pub returns-then-not-is_one_to_three : goal.returns-then-not-is_one_to_three
 unfolding settle_refused when
-returns-then-not-is_one_to_three c = sym (widths_first _ _ _ _ ∙ first_next _ _ (none (goal.at.returns-then-not-is_one_to_three c).Else-number-ne0) ∙ first_failed 15 _ (sym c.is_one_to_three.ensures ∙ c.if-not-is_one_to_three.true))
+returns-then-not-is_one_to_three c =
+    sym (widths_first _ _ _ _ ∙ first_next _ _ (none (goal.at.returns-then-not-is_one_to_three c).Else-number-ne0) ∙ first_failed 15 _ (sym c.is_one_to_three.ensures ∙ c.if-not-is_one_to_three.true))
 
 pub returns-then-number-ne0-2 : goal.returns-then-number-ne0-2
 unfolding settle_refused when
 returns-then-number-ne0-2 c =
     let e = asked (goal.at.returns-then-number-ne0-2 c).After-content_refused-number in e
-    ∙ sym (widths_first _ _ _ _ ∙ first_next _ _ (none (goal.at.returns-then-number-ne0-2 c).Else-number-ne0) ∙ first_held _ _ (named (goal.at.returns-then-number-ne0-2 c).Else-not-is_one_to_three) ∙ first_here _ _ (λ z. c.if-number-ne0-2.true (e ∙ z)))
+    ∙ sym (widths_first _ _ _ _ ∙ first_next _ _ (none (goal.at.returns-then-number-ne0-2 c).Else-number-ne0)
+    ∙ first_held _ _ (named (goal.at.returns-then-number-ne0-2 c).Else-not-is_one_to_three) ∙ first_here _ _ (λ z. c.if-number-ne0-2.true (e ∙ z)))
 
 pub ruling_at-said-requires : goal.ruling_at-said-requires
 unfolding settle_refused when
@@ -74,12 +78,15 @@ pub returns-then-is_folder : goal.returns-then-is_folder
 unfolding settle_refused
 returns-then-is_folder c =
     sym (widths_first _ _ _ _ ∙ first_next _ _ (none (goal.at.returns-then-is_folder c).Else-number-ne0) ∙ first_held _ _ (named (goal.at.returns-then-is_folder c).Else-not-is_one_to_three)
-    ∙ first_next _ _ (held (goal.at.returns-then-is_folder c).Else-number-ne0-2) ∙ first_met 9 _ (ap is_folder (said (goal.at.returns-then-is_folder c).After-ruling_at-said) ∙ sym c.is_folder.ensures ∙ c.if-is_folder.true))
+    ∙ first_next _ _ (held (goal.at.returns-then-is_folder c).Else-number-ne0-2)
+    ∙ first_met 9 _ (ap is_folder (said (goal.at.returns-then-is_folder c).After-ruling_at-said) ∙ sym c.is_folder.ensures ∙ c.if-is_folder.true))
 
 pub returns-then-not-is_conflict : goal.returns-then-not-is_conflict
 unfolding settle_refused
 returns-then-not-is_conflict c =
-    sym (widths_first _ _ _ _ ∙ first_next _ _ (none (goal.at.returns-then-not-is_conflict c).Else-number-ne0) ∙ first_held _ _ (named (goal.at.returns-then-not-is_conflict c).Else-not-is_one_to_three) ∙ first_next _ _ (held (goal.at.returns-then-not-is_conflict c).Else-number-ne0-2) ∙ first_passed _ _ (sheet (goal.at.returns-then-not-is_conflict c).Else-is_folder)
+    sym (widths_first _ _ _ _ ∙ first_next _ _ (none (goal.at.returns-then-not-is_conflict c).Else-number-ne0)
+    ∙ first_held _ _ (named (goal.at.returns-then-not-is_conflict c).Else-not-is_one_to_three) ∙ first_next _ _ (held (goal.at.returns-then-not-is_conflict c).Else-number-ne0-2)
+    ∙ first_passed _ _ (sheet (goal.at.returns-then-not-is_conflict c).Else-is_folder)
     ∙ first_failed 13 _ (ap conflicts (said (goal.at.returns-then-not-is_conflict c).After-ruling_at-said) ∙ sym c.is_conflict.ensures ∙ c.if-not-is_conflict.true))
 
 pub bounds-target-1 : goal.bounds-target-1

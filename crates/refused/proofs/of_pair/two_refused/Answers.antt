@@ -33,11 +33,14 @@ pub overflow_add-result : goal.overflow_add-result
 overflow_add-result c = omega (arith, c.check-number-2.ensures, check_small (width_of c.args.target.now) c.args.target.now)
 
 pub returns-then-number-ne0-2 : goal.returns-then-number-ne0-2
-returns-then-number-ne0-2 c = ap (λ n. n + 10) c.check-number-2.ensures ∙ sym (widths_chain _ _ _ ∙ first_next _ _ (source (goal.at.returns-then-number-ne0-2 c).Else-number-ne0) ∙ tens_met _ _ (λ e. c.if-number-ne0-2.true (c.check-number-2.ensures ∙ e)))
+returns-then-number-ne0-2 c =
+    ap (λ n. n + 10) c.check-number-2.ensures
+    ∙ sym (widths_chain _ _ _ ∙ first_next _ _ (source (goal.at.returns-then-number-ne0-2 c).Else-number-ne0) ∙ tens_met _ _ (λ e. c.if-number-ne0-2.true (c.check-number-2.ensures ∙ e)))
 
 pub returns-then-columns_of-columns : goal.returns-then-columns_of-columns
 returns-then-columns_of-columns c =
-    sym (widths_chain _ _ _ ∙ first_next _ _ (source (goal.at.returns-then-columns_of-columns c).Else-number-ne0) ∙ tens_passed _ _ (target (goal.at.returns-then-columns_of-columns c).Else-number-ne0-2)
+    sym (widths_chain _ _ _ ∙ first_next _ _ (source (goal.at.returns-then-columns_of-columns c).Else-number-ne0)
+    ∙ tens_passed _ _ (target (goal.at.returns-then-columns_of-columns c).Else-number-ne0-2)
     ∙ first_failed 18 _ (ne_eqb _ _ (λ e. c.if-columns_of-columns.true (c.columns_of.ensures ∙ e ∙ sym c.columns_of-columns.ensures))))
 
 pub unlike-requires : goal.unlike-requires
@@ -50,5 +53,6 @@ unfolding two_refused
 returns c =
     let one = source_at (goal.at.returns c).Else-columns_of-columns in
     c.unlike.ensures ∙ ap (λ v. unlike (table_of v c.args.source.now) (table_of v c.args.target.now) c.args.row) c.columns_of-columns.ensures
-    ∙ sym (widths_chain _ _ _ ∙ first_next _ _ (source (goal.at.returns c).Else-number-ne0) ∙ tens_passed _ _ (target (goal.at.returns c).Else-number-ne0-2) ∙ first_held _ _ (eq-eqb _ _ (one_width (goal.at.returns c).Else-columns_of-columns))
+    ∙ sym (widths_chain _ _ _ ∙ first_next _ _ (source (goal.at.returns c).Else-number-ne0) ∙ tens_passed _ _ (target (goal.at.returns c).Else-number-ne0-2)
+    ∙ first_held _ _ (eq-eqb _ _ (one_width (goal.at.returns c).Else-columns_of-columns))
     ∙ first_one _ ∙ first_next _ _ one ∙ tens_passed _ _ (target (goal.at.returns c).Else-number-ne0-2) ∙ first_one _)

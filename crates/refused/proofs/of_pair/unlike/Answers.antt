@@ -44,7 +44,9 @@ seven c = let s = (goal.at.After-names_later-2 c).Start in ap (λ (x : Clock). l
 row_left : (c : Else-names_later-2) → let s = (goal.at.Else-names_later-2 c).Start in unlike (a s) (b s) c.args.row ≡ when (leb (size (b s).tree) c.args.row) 8
 unfolding unlike
 row_left c =
-    first_held _ _ (same (goal.at.Else-names_later-2 c).Else-not-same_shape) ∙ first_passed _ _ (apart (goal.at.Else-names_later-2 c).Else-a-b) ∙ first_passed _ _ (six (goal.at.Else-names_later-2 c).After-names_later ∙ c.if-names_later.false) ∙ first_passed _ _ (seven (goal.at.Else-names_later-2 c).After-names_later-2 ∙ c.if-names_later-2.false) ∙ first_one _
+    first_held _ _ (same (goal.at.Else-names_later-2 c).Else-not-same_shape) ∙ first_passed _ _ (apart (goal.at.Else-names_later-2 c).Else-a-b)
+    ∙ first_passed _ _ (six (goal.at.Else-names_later-2 c).After-names_later ∙ c.if-names_later.false)
+    ∙ first_passed _ _ (seven (goal.at.Else-names_later-2 c).After-names_later-2 ∙ c.if-names_later-2.false) ∙ first_one _
 
 pub returns-then-not-same_shape : goal.returns-then-not-same_shape
 unfolding unlike
@@ -60,7 +62,10 @@ clock_of-b-requires c = omega (arith, table_long _ _ c.requires.1)
 
 pub returns-then-a-b : goal.returns-then-a-b
 unfolding unlike
-returns-then-a-b c = sym (first_held _ _ (same (goal.at.returns-then-a-b c).Else-not-same_shape) ∙ first_met 4 _ (ap₂ (λ (x y : Clock). eqb x.device y.device) (sym (clock_a (goal.at.returns-then-a-b c).After-clock_of-a)) (sym (clock_b (goal.at.returns-then-a-b c).After-clock_of-b)) ∙ eq-eqb _ _ c.if-a-b.true))
+returns-then-a-b c =
+    sym (first_held _ _ (same (goal.at.returns-then-a-b c).Else-not-same_shape)
+    ∙ first_met 4 _ (ap₂ (λ (x y : Clock). eqb x.device y.device) (sym (clock_a (goal.at.returns-then-a-b c).After-clock_of-a)) (sym (clock_b (goal.at.returns-then-a-b c).After-clock_of-b))
+    ∙ eq-eqb _ _ c.if-a-b.true))
 
 pub names_later-requires : goal.names_later-requires
 unfolding unlike
@@ -68,7 +73,9 @@ names_later-requires c = (c.requires.0, clock_device _ _ c.requires.1 _ (clock_b
 
 pub returns-then-names_later : goal.returns-then-names_later
 unfolding unlike
-returns-then-names_later c = sym (first_held _ _ (same (goal.at.returns-then-names_later c).Else-not-same_shape) ∙ first_passed _ _ (apart (goal.at.returns-then-names_later c).Else-a-b) ∙ first_met 5 _ (six (goal.at.returns-then-names_later c).After-names_later ∙ c.if-names_later.true))
+returns-then-names_later c =
+    sym (first_held _ _ (same (goal.at.returns-then-names_later c).Else-not-same_shape) ∙ first_passed _ _ (apart (goal.at.returns-then-names_later c).Else-a-b)
+    ∙ first_met 5 _ (six (goal.at.returns-then-names_later c).After-names_later ∙ c.if-names_later.true))
 
 pub names_later-requires-2 : goal.names_later-requires-2
 unfolding unlike
@@ -77,7 +84,9 @@ names_later-requires-2 c = (c.requires.1, clock_device _ _ c.requires.0 _ (clock
 pub returns-then-names_later-2 : goal.returns-then-names_later-2
 unfolding unlike
 returns-then-names_later-2 c =
-    sym (first_held _ _ (same (goal.at.returns-then-names_later-2 c).Else-not-same_shape) ∙ first_passed _ _ (apart (goal.at.returns-then-names_later-2 c).Else-a-b) ∙ first_passed _ _ (six (goal.at.returns-then-names_later-2 c).After-names_later ∙ c.if-names_later.false) ∙ first_met 6 _ (seven (goal.at.returns-then-names_later-2 c).After-names_later-2 ∙ c.if-names_later-2.true))
+    sym (first_held _ _ (same (goal.at.returns-then-names_later-2 c).Else-not-same_shape) ∙ first_passed _ _ (apart (goal.at.returns-then-names_later-2 c).Else-a-b)
+    ∙ first_passed _ _ (six (goal.at.returns-then-names_later-2 c).After-names_later ∙ c.if-names_later.false)
+    ∙ first_met 6 _ (seven (goal.at.returns-then-names_later-2 c).After-names_later-2 ∙ c.if-names_later-2.true))
 
 pub bounds-target-2 : goal.bounds-target-2
 unfolding unlike

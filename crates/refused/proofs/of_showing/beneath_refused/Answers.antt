@@ -35,10 +35,13 @@ at : (c : After-columns_of) → let s = (goal.at.After-columns_of c).Start in Be
 at c = begins _ _ _ (few c) (ap (λ v. check_of v c.args.table.now) c.columns_of.ensures ∙ checked (goal.at.After-columns_of c).Else-number-ne0) (there (goal.at.After-columns_of c).Else-table-row)
 
 kind : (c : After-columns_of)
-    → let s = (goal.at.After-columns_of c).Start in is_folder (sheet_here (subtree (table_any s.args.table.now).tree s.args.row)) ≡ eqb (get_or s.args.table.now ((s.args.row + 1) * wide c.columns_of.result) 0) 3
+    → let s =
+    (goal.at.After-columns_of c).Start in
+    is_folder (sheet_here (subtree (table_any s.args.table.now).tree s.args.row)) ≡ eqb (get_or s.args.table.now ((s.args.row + 1) * wide c.columns_of.result) 0) 3
 kind c =
     let t = c.args.table.now in
-    sym (ap (λ v. eqb (get_or t ((c.args.row + 1) * wide v) 0) 3) c.columns_of.ensures ∙ folder_word (width_of t) t (checked (goal.at.After-columns_of c).Else-number-ne0) _ (there (goal.at.After-columns_of c).Else-table-row))
+    sym (ap (λ v. eqb (get_or t ((c.args.row + 1) * wide v) 0) 3) c.columns_of.ensures
+    ∙ folder_word (width_of t) t (checked (goal.at.After-columns_of c).Else-number-ne0) _ (there (goal.at.After-columns_of c).Else-table-row))
 
 pub returns-then-number-ne0 : goal.returns-then-number-ne0
 unfolding beneath_refused
@@ -74,8 +77,18 @@ bounds-table-at c = let r = at (goal.at.bounds-table-at c).After-columns_of in o
 
 pub returns-then-table-at-ne-FOLDER : goal.returns-then-table-at-ne-FOLDER
 unfolding beneath_refused
-returns-then-table-at-ne-FOLDER c = let e = checked (goal.at.returns-then-table-at-ne-FOLDER c).Else-number-ne0 in sym (first_next _ _ e ∙ first_met 7 _ (rw (row_there _ _ e _ (there (goal.at.returns-then-table-at-ne-FOLDER c).Else-table-row), kind (goal.at.returns-then-table-at-ne-FOLDER c).After-columns_of, ne_eqb _ _ c.if-table-at-ne-FOLDER.true)))
+returns-then-table-at-ne-FOLDER c =
+    let e = checked (goal.at.returns-then-table-at-ne-FOLDER c).Else-number-ne0 in
+    sym (first_next _ _ e
+    ∙ first_met 7 _ (rw (
+      row_there _ _ e _ (there (goal.at.returns-then-table-at-ne-FOLDER c).Else-table-row),
+      kind (goal.at.returns-then-table-at-ne-FOLDER c).After-columns_of,
+      ne_eqb _ _ c.if-table-at-ne-FOLDER.true,
+    )))
 
 pub returns : goal.returns
 unfolding beneath_refused
-returns c = let e = checked (goal.at.returns c).Else-number-ne0 in sym (first_next _ _ e ∙ first_passed _ _ (rw (row_there _ _ e _ (there (goal.at.returns c).Else-table-row), kind (goal.at.returns c).After-columns_of, eq-eqb _ _ c.if-table-at-ne-FOLDER.false)) ∙ first_none)
+returns c =
+    let e = checked (goal.at.returns c).Else-number-ne0 in
+    sym (first_next _ _ e
+    ∙ first_passed _ _ (rw (row_there _ _ e _ (there (goal.at.returns c).Else-table-row), kind (goal.at.returns c).After-columns_of, eq-eqb _ _ c.if-table-at-ne-FOLDER.false)) ∙ first_none)

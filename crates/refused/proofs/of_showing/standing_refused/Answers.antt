@@ -26,7 +26,9 @@ ruling_at-said-requires c = two_at _ _ _ _ c.columns_of.ensures (none (goal.at.r
 
 pub returns-then-is_folder : goal.returns-then-is_folder
 unfolding standing_refused
-returns-then-is_folder c = sym (widths_first _ _ _ _ ∙ first_next _ _ (none (goal.at.returns-then-is_folder c).Else-number-ne0) ∙ first_met 9 _ (folder (goal.at.returns-then-is_folder c).After-is_folder ∙ c.if-is_folder.true))
+returns-then-is_folder c =
+    sym (widths_first _ _ _ _ ∙ first_next _ _ (none (goal.at.returns-then-is_folder c).Else-number-ne0)
+    ∙ first_met 9 _ (folder (goal.at.returns-then-is_folder c).After-is_folder ∙ c.if-is_folder.true))
 
 pub returns : goal.returns
 unfolding standing_refused

@@ -21,7 +21,8 @@ use Rattle.order.proofs.RowPlaces.{Begins, begins}
 use Rattle.two.proofs.TwoTables.{no_row, row_there}
 use Rattle.refused.proofs.EventFits.{fits_row}
 use Rattle.refused.proofs.of_table.event_refused.Goals as goal
-use Rattle.refused.proofs.of_table.event_refused.Goals.{After-columns_of, After-content_refused-number, After-fits_kind, Else-not-fits_kind, Else-not-is_one_to_three, Else-number-ne0, Else-number-ne0-2, Else-table-row, Start}
+use Rattle.refused.proofs.of_table.event_refused.Goals.{After-columns_of, After-content_refused-number, After-fits_kind, Else-not-fits_kind}
+use Rattle.refused.proofs.of_table.event_refused.Goals.{Else-not-is_one_to_three, Else-number-ne0, Else-number-ne0-2, Else-table-row, Start}
 
 -- the table passes the check, the event is one, and the row is there
 checked : (c : Else-number-ne0) → check_any c.args.table.now ≡ 0
@@ -64,7 +65,8 @@ last : (c : Else-not-fits_kind)
 unfolding event_refused table_of
 last c =
     let e = checked (goal.at.Else-not-fits_kind c).Else-number-ne0 in
-    first_next _ _ e ∙ first_held _ _ (named (goal.at.Else-not-fits_kind c).Else-not-is_one_to_three) ∙ first_next _ _ (held (goal.at.Else-not-fits_kind c).Else-number-ne0-2) ∙ first_passed _ _ (row_there _ _ e _ (there (goal.at.Else-not-fits_kind c).Else-table-row))
+    first_next _ _ e ∙ first_held _ _ (named (goal.at.Else-not-fits_kind c).Else-not-is_one_to_three) ∙ first_next _ _ (held (goal.at.Else-not-fits_kind c).Else-number-ne0-2)
+    ∙ first_passed _ _ (row_there _ _ e _ (there (goal.at.Else-not-fits_kind c).Else-table-row))
     ∙ first_held _ _ (fitting (goal.at.Else-not-fits_kind c).After-fits_kind ∙ c.if-not-fits_kind.false) ∙ first_one _
 
 pub returns-then-number-ne0 : goal.returns-then-number-ne0
@@ -73,11 +75,15 @@ returns-then-number-ne0 c = let e = c.check-number.ensures in e ∙ sym (first_h
 
 pub returns-then-not-is_one_to_three : goal.returns-then-not-is_one_to_three
 unfolding event_refused
-returns-then-not-is_one_to_three c = sym (first_next _ _ (checked (goal.at.returns-then-not-is_one_to_three c).Else-number-ne0) ∙ first_failed 15 _ (sym c.is_one_to_three.ensures ∙ c.if-not-is_one_to_three.true))
+returns-then-not-is_one_to_three c =
+    sym (first_next _ _ (checked (goal.at.returns-then-not-is_one_to_three c).Else-number-ne0) ∙ first_failed 15 _ (sym c.is_one_to_three.ensures ∙ c.if-not-is_one_to_three.true))
 
 pub returns-then-number-ne0-2 : goal.returns-then-number-ne0-2
 unfolding event_refused
-returns-then-number-ne0-2 c = let e = asked (goal.at.returns-then-number-ne0-2 c).After-content_refused-number in e ∙ sym (first_next _ _ (checked (goal.at.returns-then-number-ne0-2 c).Else-number-ne0) ∙ first_held _ _ (named (goal.at.returns-then-number-ne0-2 c).Else-not-is_one_to_three) ∙ first_here _ _ (λ z. c.if-number-ne0-2.true (e ∙ z)))
+returns-then-number-ne0-2 c =
+    let e = asked (goal.at.returns-then-number-ne0-2 c).After-content_refused-number in
+    e ∙ sym (first_next _ _ (checked (goal.at.returns-then-number-ne0-2 c).Else-number-ne0) ∙ first_held _ _ (named (goal.at.returns-then-number-ne0-2 c).Else-not-is_one_to_three)
+    ∙ first_here _ _ (λ z. c.if-number-ne0-2.true (e ∙ z)))
 
 pub bounds-table-2 : goal.bounds-table-2
 unfolding event_refused
@@ -85,7 +91,10 @@ bounds-table-2 c = let h = (check_facts _ _ (checked (goal.at.bounds-table-2 c).
 
 pub returns-then-table-row : goal.returns-then-table-row
 unfolding event_refused
-returns-then-table-row c = let e = checked (goal.at.returns-then-table-row c).Else-number-ne0 in sym (first_next _ _ e ∙ first_held _ _ (named (goal.at.returns-then-table-row c).Else-not-is_one_to_three) ∙ first_next _ _ (held (goal.at.returns-then-table-row c).Else-number-ne0-2) ∙ first_met 7 _ (no_row _ _ e _ c.if-table-row.true))
+returns-then-table-row c =
+    let e = checked (goal.at.returns-then-table-row c).Else-number-ne0 in
+    sym (first_next _ _ e ∙ first_held _ _ (named (goal.at.returns-then-table-row c).Else-not-is_one_to_three) ∙ first_next _ _ (held (goal.at.returns-then-table-row c).Else-number-ne0-2)
+    ∙ first_met 7 _ (no_row _ _ e _ c.if-table-row.true))
 
 pub overflow_mul-width : goal.overflow_mul-width
 unfolding event_refused
@@ -111,7 +120,8 @@ pub returns-then-not-fits_kind : goal.returns-then-not-fits_kind
 unfolding event_refused
 returns-then-not-fits_kind c =
     let e = checked (goal.at.returns-then-not-fits_kind c).Else-number-ne0 in
-    sym (first_next _ _ e ∙ first_held _ _ (named (goal.at.returns-then-not-fits_kind c).Else-not-is_one_to_three) ∙ first_next _ _ (held (goal.at.returns-then-not-fits_kind c).Else-number-ne0-2) ∙ first_passed _ _ (row_there _ _ e _ (there (goal.at.returns-then-not-fits_kind c).Else-table-row))
+    sym (first_next _ _ e ∙ first_held _ _ (named (goal.at.returns-then-not-fits_kind c).Else-not-is_one_to_three) ∙ first_next _ _ (held (goal.at.returns-then-not-fits_kind c).Else-number-ne0-2)
+    ∙ first_passed _ _ (row_there _ _ e _ (there (goal.at.returns-then-not-fits_kind c).Else-table-row))
     ∙ first_failed 9 _ (fitting (goal.at.returns-then-not-fits_kind c).After-fits_kind ∙ c.if-not-fits_kind.true))
 
 pub bounds-table-1 : goal.bounds-table-1

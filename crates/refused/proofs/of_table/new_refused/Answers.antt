@@ -33,7 +33,9 @@ returns-then-columns-device c = sym (first_met 16 _ (le-leb c.args.columns c.arg
 
 pub returns-then-not-plan_fits : goal.returns-then-not-plan_fits
 unfolding new_refused
-returns-then-not-plan_fits c = sym (first_passed _ _ (device (goal.at.returns-then-not-plan_fits c).Else-columns-device) ∙ first_failed 1 _ (plan (goal.at.returns-then-not-plan_fits c).After-plan_fits ∙ c.if-not-plan_fits.true))
+returns-then-not-plan_fits c =
+    sym (first_passed _ _ (device (goal.at.returns-then-not-plan_fits c).Else-columns-device)
+    ∙ first_failed 1 _ (plan (goal.at.returns-then-not-plan_fits c).After-plan_fits ∙ c.if-not-plan_fits.true))
 
 pub overflow_mul-width : goal.overflow_mul-width
 unfolding new_refused
@@ -53,7 +55,9 @@ overflow_add-plan c = omega (arith, small c, c.requires)
 
 pub returns-then-table-plan : goal.returns-then-table-plan
 unfolding new_refused
-returns-then-table-plan c = sym (first_passed _ _ (device (goal.at.returns-then-table-plan c).Else-columns-device) ∙ first_held _ _ (plan (goal.at.returns-then-table-plan c).After-plan_fits ∙ c.if-not-plan_fits.false) ∙ first_failed 8 _ (ne_eqb _ _ c.if-table-plan.true))
+returns-then-table-plan c =
+    sym (first_passed _ _ (device (goal.at.returns-then-table-plan c).Else-columns-device) ∙ first_held _ _ (plan (goal.at.returns-then-table-plan c).After-plan_fits ∙ c.if-not-plan_fits.false)
+    ∙ first_failed 8 _ (ne_eqb _ _ c.if-table-plan.true))
 
 pub returns : goal.returns
 unfolding new_refused

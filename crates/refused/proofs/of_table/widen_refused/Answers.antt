@@ -23,7 +23,8 @@ returns-then-number-ne0 c = let e = c.check-number.ensures in e ∙ sym (first_h
 
 pub returns-then-columns_of-eq-COLUMNS : goal.returns-then-columns_of-eq-COLUMNS
 unfolding widen_refused
-returns-then-columns_of-eq-COLUMNS c = sym (first_next _ _ (checked (goal.at.returns-then-columns_of-eq-COLUMNS c).Else-number-ne0) ∙ first_met 18 _ (eq-eqb _ _ (sym c.columns_of.ensures ∙ c.if-columns_of-eq-COLUMNS.true)))
+returns-then-columns_of-eq-COLUMNS c =
+    sym (first_next _ _ (checked (goal.at.returns-then-columns_of-eq-COLUMNS c).Else-number-ne0) ∙ first_met 18 _ (eq-eqb _ _ (sym c.columns_of.ensures ∙ c.if-columns_of-eq-COLUMNS.true)))
 
 pub bounds-table-2 : goal.bounds-table-2
 unfolding widen_refused
@@ -43,8 +44,12 @@ overflow_add-table c = omega (arith, (check_facts _ _ (checked (goal.at.overflow
 
 pub returns-then-wider-table : goal.returns-then-wider-table
 unfolding widen_refused
-returns-then-wider-table c = sym (first_next _ _ (checked (goal.at.returns-then-wider-table c).Else-number-ne0) ∙ first_passed _ _ (narrow (goal.at.returns-then-wider-table c).Else-columns_of-eq-COLUMNS) ∙ first_failed 8 _ (ne_eqb _ _ c.if-wider-table.true))
+returns-then-wider-table c =
+    sym (first_next _ _ (checked (goal.at.returns-then-wider-table c).Else-number-ne0) ∙ first_passed _ _ (narrow (goal.at.returns-then-wider-table c).Else-columns_of-eq-COLUMNS)
+    ∙ first_failed 8 _ (ne_eqb _ _ c.if-wider-table.true))
 
 pub returns : goal.returns
 unfolding widen_refused
-returns c = sym (first_next _ _ (checked (goal.at.returns c).Else-number-ne0) ∙ first_passed _ _ (narrow (goal.at.returns c).Else-columns_of-eq-COLUMNS) ∙ first_held _ _ (eq-eqb _ _ c.if-wider-table.false) ∙ first_none)
+returns c =
+    sym (first_next _ _ (checked (goal.at.returns c).Else-number-ne0) ∙ first_passed _ _ (narrow (goal.at.returns c).Else-columns_of-eq-COLUMNS)
+    ∙ first_held _ _ (eq-eqb _ _ c.if-wider-table.false) ∙ first_none)

@@ -78,8 +78,10 @@ rows_fit-requires c =
 
 pub returns-then-not-rows_fit : goal.returns-then-not-rows_fit
 returns-then-not-rows_fit c =
-    let h = (goal.at.returns-then-not-rows_fit c).Else-not-head_fits in let o = (goal.at.returns-then-not-rows_fit c).Else-not-order_fits in rules_said _ _ (head h) (order o) _ _ false (c.clock_of.ensures _) c.zeros.ensures (sym c.rows_fit.ensures ∙ c.if-not-rows_fit.true)
+    let h = (goal.at.returns-then-not-rows_fit c).Else-not-head_fits in let o = (goal.at.returns-then-not-rows_fit c).Else-not-order_fits in
+    rules_said _ _ (head h) (order o) _ _ false (c.clock_of.ensures _) c.zeros.ensures (sym c.rows_fit.ensures ∙ c.if-not-rows_fit.true)
 
 pub returns : goal.returns
 returns c =
-    let h = (goal.at.returns c).Else-not-head_fits in let o = (goal.at.returns c).Else-not-order_fits in rules_said _ _ (head h) (order o) _ _ true (c.clock_of.ensures _) c.zeros.ensures (sym c.rows_fit.ensures ∙ c.if-not-rows_fit.false)
+    let h = (goal.at.returns c).Else-not-head_fits in let o = (goal.at.returns c).Else-not-order_fits in
+    rules_said _ _ (head h) (order o) _ _ true (c.clock_of.ensures _) c.zeros.ensures (sym c.rows_fit.ensures ∙ c.if-not-rows_fit.false)

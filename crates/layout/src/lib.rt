@@ -65,6 +65,7 @@ fn content_of(r: &[u32]) -> Content
 }
 
 // A live sheet may hold it.
+#[tactic(auto, unfolding(paper::specs::Check::content_fits))]
 fn content_fits(content: Content) -> bool
     ensures { result ≡ content_fits content }
 {

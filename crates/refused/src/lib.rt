@@ -22,6 +22,7 @@ pub fn is_one_to_three(n: u32) -> bool
 }
 
 // What refuses the content of a call, where it is taken: 21, 22.
+#[tactic(auto, unfolding(paper::specs::Calls::content_refused, paper::specs::Refusals::first, paper::specs::Refusals::when))]
 pub fn content_refused(takes: bool, content: Content) -> u32
     ensures { result ≡ content_if takes content }
 {

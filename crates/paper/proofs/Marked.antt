@@ -125,19 +125,19 @@ I = does (event 0 2 2 709) (does (event 1 2 3 0) (passes 0 1 0 (list (4 ∷ 4 �
 J : Play
 J = does (event 0 2 3 0) (passes 0 1 0 (list (4 ∷ 4 ∷ 2 ∷ 0 ∷ 0 ∷ [])) done)
 
-BToE : Play
-BToE =
+B_to_E : Play
+B_to_E =
     passes 0 1 0 (count (5 ∷ 5 ∷ 0 ∷ 0 ∷ 0 ∷ []) 1)
     (does (event 0 2 2 701) (does (event 1 2 2 702) (passes 0 1 0 (list (4 ∷ 4 ∷ 3 ∷ 0 ∷ 0 ∷ []))
     (does (settle 0 1 2 2 0) (passes 0 1 0 (stamped (5 ∷ 5 ∷ 0 ∷ 0 ∷ 0 ∷ []) (holds 2 1 2 ∷ []))
     (passes 1 0 0 (stamped (4 ∷ 4 ∷ 1 ∷ 0 ∷ 0 ∷ []) (holds 2 1 2 ∷ [])) done))))))
 
-AThen : Play → Play
-AThen p = does (event 0 2 1 700) (passes 0 1 0 says_A p)
+A_then : Play → Play
+A_then p = does (event 0 2 1 700) (passes 0 1 0 says_A p)
 
 -- F at row 1, then at row 0; G beside it
-FAndG : Play
-FAndG =
+F_and_G : Play
+F_and_G =
     does (event 0 2 1 703) (does (event 0 4 1 704) (passes 0 1 1 (list (4 ∷ 1 ∷ 0 ∷ []))
     (aside (passes 1 0 0 says_G done) (passes 0 1 0 (count (4 ∷ 5 ∷ 0 ∷ 0 ∷ 1 ∷ []) 3) done))))
 
@@ -204,12 +204,12 @@ opposite_ways =
 
 plays : Play
 plays =
-    aside (AThen (aside I (aside J BToE)))
-    (aside FAndG (aside H (aside K (aside by_way (aside removed_again (aside removed_apart opposite_ways))))))
+    aside (A_then (aside I (aside J B_to_E)))
+    (aside F_and_G (aside H (aside K (aside by_way (aside removed_again (aside removed_apart opposite_ways))))))
 
 -- those that are played with sixteen columns too, where the third device has a column of a narrow table
 wide_plays : Play
-wide_plays = aside (AThen BToE) (aside FAndG K)
+wide_plays = aside (A_then B_to_E) (aside F_and_G K)
 
 narrow_three : List ℕ
 narrow_three = 0 ∷ 1 ∷ 2 ∷ []
@@ -219,6 +219,6 @@ wide_three = 15 ∷ 8 ∷ 3 ∷ []
 
 -- A TO K
 marked : said 8 narrow_three (fresh 8 narrow_three) plays ++ said 16 wide_three (fresh 16 wide_three) wide_plays ≡ meant plays ++ meant wide_plays
-unfolding root_level_lem stamp_of seen said meant list count floored stamped holds says_A says_G says_K I J BToE AThen FAndG H K
+unfolding root_level_lem stamp_of seen said meant list count floored stamped holds says_A says_G says_K I J B_to_E A_then F_and_G H K
     by_way removed_again brought_back unheard heard_over removed_apart settled_apart opposite_ways plays wide_plays narrow_three wide_three played
 marked = refl

@@ -93,8 +93,8 @@ widened =
     (tells 9 1 (1 ∷ 0 ∷ 0 ∷ []) (tells 0 9 (0 ∷ 0 ∷ 0 ∷ []) done))))))))
 
 -- A, B, a change that is heard of, C, C told again, D and E
-AToE : Play
-AToE =
+A_to_E : Play
+A_to_E =
     does (event 0 2 1 700) (tells 0 1 (1 ∷ 0 ∷ 0 ∷ [])
     (does (whole 0 1) (tells 0 1 (0 ∷ 0 ∷ 0 ∷ [])
     (does (whole 0 1) (does (event 0 2 2 701) (tells 0 1 (1 ∷ 0 ∷ 0 ∷ [])
@@ -105,8 +105,8 @@ AToE =
     (does (whole 0 1) (tells 1 0 (1 ∷ 0 ∷ 0 ∷ []) done)))))))))))))))))
 
 -- F and G; H; I; J; K
-FToG : Play
-FToG =
+F_to_G : Play
+F_to_G =
     does (event 0 2 1 1) (does (event 0 4 1 2) (tells 0 1 (1 ∷ 0 ∷ 1 ∷ [])
     (does (part 0 1) (tells 0 1 (0 ∷ 0 ∷ 1 ∷ []) (tells 1 0 (0 ∷ 0 ∷ 0 ∷ []) done)))))
 
@@ -163,7 +163,7 @@ opposite_ways =
 
 plays : Play
 plays =
-    aside AToE (aside FToG (aside born_twice (aside removed_while_changed (aside K (aside by_way
+    aside A_to_E (aside F_to_G (aside born_twice (aside removed_while_changed (aside K (aside by_way
     (aside removed_again (aside removed_apart opposite_ways)))))))
 
 -- the history's definitions, opened at once
@@ -174,6 +174,6 @@ happened = tt
 -- A to K, a change after B, C's conflict settled in each way, a removal by way of another device, tables that are widened, and one
 -- conflict settled twice
 told_marked : told (begun columns plan lent) plays ≡ meant plays
-unfolding plan columns lent wider whole part number told meant plays AToE by_theirs by_new widened FToG born_twice removed_while_changed K
+unfolding plan columns lent wider whole part number told meant plays A_to_E by_theirs by_new widened F_to_G born_twice removed_while_changed K
     by_way removed_again brought_back removed_apart settled_apart opposite_ways computed happened
 told_marked = refl

@@ -6,7 +6,7 @@ use mathlib.Core.Bool.{Bool, true, false}
 use native.Mathlib.Omega.{arith}
 use lib.Dec.{eqb}
 use borrow.Author.Tests.{eqb-false, lt-ltb}
-use borrow.Rule.Slice.PartMut.{put_mid, same_len_mid, Post-is}
+use borrow.Rule.Slice.PartMut.{put_mid, Post-is}
 use lib.ListN.{length, get_or, take, drop, length-append, length-drop, take-append-drop}
 use lib.Seq.{take_at, drop_at, take-append-add, length-take-le}
 use Rattle.paper.specs.Tree.{end, sheet, folder, size}
@@ -227,15 +227,6 @@ module _ (w : ℕ) (t : List ℕ) (row : ℕ) where
 
         abbrev held : List ℕ
         held = take (next (wide w) t at - at) (drop at came)
-
-        came_long : length came ≡ length t
-        came_long = same_len_mid (at + wide w) (next (wide w) t at - (at + wide w)) t y k
-
-        pub came_room : next (wide w) t at ≤ length came
-        came_room = omega (arith, came_long, a.here.room)
-
-        pub both_long : (z : List ℕ) → length z ≡ length held → length (put_mid at (next (wide w) t at - at) came z) ≡ length t
-        both_long z g = same_len_mid at (next (wide w) t at - at) came z g ∙ came_long
 
         back : y ≡ words_of (mended_rows w (forest_of (wide w) (beneath (wide w) u)) (left - 1))
         back = q ∙ ap (λ x. words_of (mended_rows w (forest_of (wide w) x) (left - 1))) (part_beneath (wide w) t at)

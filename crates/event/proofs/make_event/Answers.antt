@@ -42,7 +42,7 @@ pub bounds-t-1 : goal.bounds-t-1
 bounds-t-1 c = omega (arith, room (goal.at.bounds-t-1 c).Start)
 
 pub ticking-ticked-requires : goal.ticking-ticked-requires
-ticking-ticked-requires c = omega (arith, (room (goal.at.ticking-ticked-requires c).Start).counter, c.slice_known-3-1.given 1)
+ticking-ticked-requires c = omega (arith, (room (goal.at.ticking-ticked-requires c).Start).counter, c.type_inv.t 1)
 
 pub overflow_mul-width : goal.overflow_mul-width
 overflow_mul-width c = let s = (goal.at.overflow_mul-width c).Start in omega (arith, few s)

@@ -7,27 +7,21 @@ use Rattle.event.proofs.EventAtWords.{event_one, event_two, event_three}
 use Rattle.event.proofs.write_event.Goals as goal
 
 pub bounds-r : goal.bounds-r
-unfolding event_words
 bounds-r c = simp length-set (omega arith)
 
 pub bounds-r-0 : goal.bounds-r-0
-unfolding event_words
 bounds-r-0 c = simp length-set (omega arith)
 
 pub bounds-r-4 : goal.bounds-r-4
-unfolding event_words
 bounds-r-4 c = simp length-set (omega arith)
 
 pub bounds-r-then-event-eq-CREATES : goal.bounds-r-then-event-eq-CREATES
-unfolding event_words
 bounds-r-then-event-eq-CREATES c = simp length-set (omega arith)
 
 pub bounds-r-6 : goal.bounds-r-6
-unfolding event_words
 bounds-r-6 c = simp length-set (omega arith)
 
 pub bounds-r-7 : goal.bounds-r-7
-unfolding event_words
 bounds-r-7 c = simp length-set (omega arith)
 
 pub returns-then-event-eq-CREATES : goal.returns-then-event-eq-CREATES
@@ -35,15 +29,12 @@ unfolding event_words
 returns-then-event-eq-CREATES c = sym (rw (event_one _ c.if-event-eq-CREATES.true))
 
 pub bounds-r-0-then-event-eq-CHANGES : goal.bounds-r-0-then-event-eq-CHANGES
-unfolding event_words
 bounds-r-0-then-event-eq-CHANGES c = simp length-set (omega arith)
 
 pub bounds-r-6-then-event-eq-CHANGES : goal.bounds-r-6-then-event-eq-CHANGES
-unfolding event_words
 bounds-r-6-then-event-eq-CHANGES c = simp length-set (omega arith)
 
 pub bounds-r-7-then-event-eq-CHANGES : goal.bounds-r-7-then-event-eq-CHANGES
-unfolding event_words
 bounds-r-7-then-event-eq-CHANGES c = simp length-set (omega arith)
 
 pub returns-then-event-eq-CHANGES : goal.returns-then-event-eq-CHANGES
@@ -51,23 +42,18 @@ unfolding event_words
 returns-then-event-eq-CHANGES c = sym (rw (event_two _ c.if-event-eq-CHANGES.true))
 
 pub bounds-r-0-2 : goal.bounds-r-0-2
-unfolding event_words
 bounds-r-0-2 c = simp length-set (omega arith)
 
 pub bounds-r-4-2 : goal.bounds-r-4-2
-unfolding event_words
 bounds-r-4-2 c = simp length-set (omega arith)
 
 pub bounds-r-3 : goal.bounds-r-3
-unfolding event_words
 bounds-r-3 c = simp length-set (omega arith)
 
 pub bounds-r-6-2 : goal.bounds-r-6-2
-unfolding event_words
 bounds-r-6-2 c = simp length-set (omega arith)
 
 pub bounds-r-7-2 : goal.bounds-r-7-2
-unfolding event_words
 bounds-r-7-2 c = simp length-set (omega arith)
 
 pub returns : goal.returns

@@ -2,7 +2,6 @@
 use Rattle.vector.proofs.Tests.{first_so, second_so}
 use Rattle.laws.proofs.Bools.{not_so}
 use Rattle.laws.proofs.Order.{RowFits, fits_facts, facts_fit, row_room}
-use Rattle.vector.proofs.Parts.{words_fit}
 use Rattle.paper.specs.Order.{row_fits}
 use mathlib.Core.Bool.{false}
 use native.Mathlib.Omega.{arith}
@@ -20,9 +19,6 @@ returns-then-levels-eq0 c = let s = (goal.at.returns-then-levels-eq0 c).Start in
 pub returns-then-t-width : goal.returns-then-t-width
 returns-then-t-width c = let s = (goal.at.returns-then-t-width c).Start in bad s (λ f. omega (arith, row_room _ _ _ f))
 
-pub overflow_cast-size : goal.overflow_cast-size
-overflow_cast-size c = omega (arith, c.shared_slice_known-2-1.given 1)
-
 pub returns-then-kind-gt3 : goal.returns-then-kind-gt3
 returns-then-kind-gt3 c = let s = (goal.at.returns-then-kind-gt3 c).Start in bad s (λ f. omega arith)
 
@@ -31,11 +27,6 @@ returns-then-size-eq0 c = let s = (goal.at.returns-then-size-eq0 c).Start in bad
 
 pub returns-then-size-ne1 : goal.returns-then-size-ne1
 returns-then-size-ne1 c = let s = (goal.at.returns-then-size-ne1 c).Start in bad s (λ f. c.if-size-ne1.true (f.sheet c.if-kind-ne-FOLDER.true))
-
-pub overflow_mul-size : goal.overflow_mul-size
-overflow_mul-size c =
-    let b = c.shared_slice_known-2-1.given 1 in
-    omega (arith, b, words_fit (get_or c.args.t.now 1 0) c.args.width (omega (arith, b)) c.requires.1)
 
 pub returns-then-t-size : goal.returns-then-t-size
 returns-then-t-size c = let s = (goal.at.returns-then-t-size c).Start in bad s (λ f. omega arith)

@@ -10,9 +10,6 @@ returns-then-p-eq0 c = λ w. no_rows w c.args.p.now c.if-p-eq0.true
 pub returns-then-p-gt-MOST_ROWS : goal.returns-then-p-gt-MOST_ROWS
 returns-then-p-gt-MOST_ROWS c = λ w. too_many w c.args.p.now (omega (arith, c.if-p-eq0.false)) c.if-p-gt-MOST_ROWS.true
 
-pub overflow_cast-p : goal.overflow_cast-p
-overflow_cast-p c = omega (arith, c.shared_slice_known-2-1.given 0)
-
 pub returns-then-p : goal.returns-then-p
 returns-then-p c =
     λ w. no_root w c.args.p.now (omega (arith, c.if-p-eq0.false)) (omega (arith, c.if-p-gt-MOST_ROWS.false)) c.if-p.true

@@ -1,5 +1,5 @@
 -- What either side has heard of the other's row, and the rule that fits.
-use Rattle.rules.proofs.RulesAtKinds.{judged_by}
+use Rattle.rules.proofs.RulesAtRows.{judged_by}
 use Rattle.rules.proofs.judge.Goals as goal
 
 pub returns : goal.returns

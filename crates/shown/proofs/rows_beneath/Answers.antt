@@ -44,9 +44,6 @@ offset_bounds-table-at c = omega (arith, room c)
 pub bounds-table-at : goal.bounds-table-at
 bounds-table-at c = omega (arith, room (goal.at.bounds-table-at c).Start)
 
-pub overflow_cast-size : goal.overflow_cast-size
-overflow_cast-size c = omega (arith, c.shared_slice_known-1.given ((c.args.row + 1) * wide c.args.columns + 1))
-
 pub overflow_add-start : goal.overflow_add-start
 overflow_add-start c = omega (arith, room (goal.at.overflow_add-start c).Start)
 

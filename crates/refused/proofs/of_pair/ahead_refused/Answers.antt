@@ -25,7 +25,6 @@ unfolding ahead_refused
 returns-then-number-ne0 c = let e = c.two_refused-number.ensures in e ∙ sym (widths_first _ _ _ _ ∙ first_here _ _ (λ z. c.if-number-ne0.true (e ∙ z)))
 
 pub ruling_at-said-requires : goal.ruling_at-said-requires
-unfolding ahead_refused
 ruling_at-said-requires c = two_at _ _ _ _ c.columns_of.ensures (none (goal.at.ruling_at-said-requires c).Else-number-ne0)
 
 pub returns-then-is_folder : goal.returns-then-is_folder

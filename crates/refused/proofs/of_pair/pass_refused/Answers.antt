@@ -39,32 +39,22 @@ unfolding pass_refused
 returns-then-number-ne0 c = let e = c.two_refused-number.ensures in e ∙ sym (widths_first _ _ _ _ ∙ first_here _ _ (λ z. c.if-number-ne0.true (e ∙ z)))
 
 pub overflow_mul-width : goal.overflow_mul-width
-unfolding pass_refused
 overflow_mul-width c = let h = few c in omega arith
 
 pub overflow_add-width : goal.overflow_add-width
-unfolding pass_refused
 overflow_add-width c = let h = few c in omega arith
 
 pub overflow_mul-at : goal.overflow_mul-at
-unfolding pass_refused
 overflow_mul-at c = let r = at c in omega (arith, r.room, r.few)
 
 pub overflow_add-at-2 : goal.overflow_add-at-2
-unfolding pass_refused
 overflow_add-at-2 c = let r = at c in omega (arith, r.room, r.few)
 
 pub offset_bounds-target-at : goal.offset_bounds-target-at
-unfolding pass_refused
 offset_bounds-target-at c = let r = at c in omega (arith, r.room, r.few)
 
 pub bounds-target-at : goal.bounds-target-at
-unfolding pass_refused
 bounds-target-at c = let r = at (goal.at.bounds-target-at c).After-columns_of in omega (arith, r.room)
-
-pub overflow_cast-target : goal.overflow_cast-target
-unfolding pass_refused
-overflow_cast-target c = omega (arith, c.shared_slice_known-4-1.given ((c.args.row + 1) * wide c.columns_of.result + 1))
 
 pub returns-then-answers-target : goal.returns-then-answers-target
 unfolding pass_refused

@@ -71,7 +71,6 @@ returns-then-number-ne0-2 c =
     ∙ first_held _ _ (named (goal.at.returns-then-number-ne0-2 c).Else-not-is_one_to_three) ∙ first_here _ _ (λ z. c.if-number-ne0-2.true (e ∙ z)))
 
 pub ruling_at-said-requires : goal.ruling_at-said-requires
-unfolding settle_refused when
 ruling_at-said-requires c = two_at _ _ _ _ c.columns_of.ensures (none (goal.at.ruling_at-said-requires c).Else-number-ne0)
 
 pub returns-then-is_folder : goal.returns-then-is_folder
@@ -90,7 +89,6 @@ returns-then-not-is_conflict c =
     ∙ first_failed 13 _ (ap conflicts (said (goal.at.returns-then-not-is_conflict c).After-ruling_at-said) ∙ sym c.is_conflict.ensures ∙ c.if-not-is_conflict.true))
 
 pub bounds-target-1 : goal.bounds-target-1
-unfolding settle_refused when
 bounds-target-1 c = let h = two_at _ _ _ _ c.columns_of.ensures (none (goal.at.bounds-target-1 c).Else-number-ne0) in omega (arith, (begin_both _ _ _ _ h.1 h.0).1.head)
 
 pub returns-then-target : goal.returns-then-target

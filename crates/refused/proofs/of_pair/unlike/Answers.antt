@@ -53,11 +53,9 @@ unfolding unlike
 returns-then-not-same_shape c = sym (first_failed 3 _ (sym c.same_shape.ensures ∙ c.if-not-same_shape.true))
 
 pub clock_of-a-requires : goal.clock_of-a-requires
-unfolding unlike
 clock_of-a-requires c = omega (arith, table_long _ _ c.requires.0)
 
 pub clock_of-b-requires : goal.clock_of-b-requires
-unfolding unlike
 clock_of-b-requires c = omega (arith, table_long _ _ c.requires.1)
 
 pub returns-then-a-b : goal.returns-then-a-b
@@ -68,7 +66,6 @@ returns-then-a-b c =
     ∙ eq-eqb _ _ c.if-a-b.true))
 
 pub names_later-requires : goal.names_later-requires
-unfolding unlike
 names_later-requires c = (c.requires.0, clock_device _ _ c.requires.1 _ (clock_b (goal.at.names_later-requires c).After-clock_of-b), c.requires.2)
 
 pub returns-then-names_later : goal.returns-then-names_later
@@ -78,7 +75,6 @@ returns-then-names_later c =
     ∙ first_met 5 _ (six (goal.at.returns-then-names_later c).After-names_later ∙ c.if-names_later.true))
 
 pub names_later-requires-2 : goal.names_later-requires-2
-unfolding unlike
 names_later-requires-2 c = (c.requires.1, clock_device _ _ c.requires.0 _ (clock_a (goal.at.names_later-requires-2 c).After-clock_of-a), c.requires.2)
 
 pub returns-then-names_later-2 : goal.returns-then-names_later-2
@@ -89,7 +85,6 @@ returns-then-names_later-2 c =
     ∙ first_met 6 _ (seven (goal.at.returns-then-names_later-2 c).After-names_later-2 ∙ c.if-names_later-2.true))
 
 pub bounds-target-2 : goal.bounds-target-2
-unfolding unlike
 bounds-target-2 c = omega (arith, table_long _ _ c.requires.1)
 
 pub returns-then-target-row : goal.returns-then-target-row

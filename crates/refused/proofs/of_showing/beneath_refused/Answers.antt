@@ -48,7 +48,6 @@ unfolding beneath_refused
 returns-then-number-ne0 c = let e = c.check-number.ensures in e ∙ sym (first_here _ _ (λ z. c.if-number-ne0.true (e ∙ z)))
 
 pub bounds-table-2 : goal.bounds-table-2
-unfolding beneath_refused
 bounds-table-2 c = omega (arith, (check_facts _ _ (checked (goal.at.bounds-table-2 c).Else-number-ne0)).head.long)
 
 pub returns-then-table-row : goal.returns-then-table-row
@@ -56,23 +55,18 @@ unfolding beneath_refused
 returns-then-table-row c = let e = checked (goal.at.returns-then-table-row c).Else-number-ne0 in sym (first_next _ _ e ∙ first_met 7 _ (rw (no_row _ _ e _ c.if-table-row.true)))
 
 pub overflow_mul-width : goal.overflow_mul-width
-unfolding beneath_refused
 overflow_mul-width c = let h = few c in omega arith
 
 pub overflow_add-width : goal.overflow_add-width
-unfolding beneath_refused
 overflow_add-width c = let h = few c in omega arith
 
 pub overflow_mul-at : goal.overflow_mul-at
-unfolding beneath_refused
 overflow_mul-at c = let r = at c in omega (arith, r.room, r.few)
 
 pub offset_bounds-table-at : goal.offset_bounds-table-at
-unfolding beneath_refused
 offset_bounds-table-at c = let r = at c in omega (arith, r.room, r.few)
 
 pub bounds-table-at : goal.bounds-table-at
-unfolding beneath_refused
 bounds-table-at c = let r = at (goal.at.bounds-table-at c).After-columns_of in omega (arith, r.room)
 
 pub returns-then-table-at-ne-FOLDER : goal.returns-then-table-at-ne-FOLDER

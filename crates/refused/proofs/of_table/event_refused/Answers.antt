@@ -86,7 +86,6 @@ returns-then-number-ne0-2 c =
     ∙ first_here _ _ (λ z. c.if-number-ne0-2.true (e ∙ z)))
 
 pub bounds-table-2 : goal.bounds-table-2
-unfolding event_refused
 bounds-table-2 c = let h = (check_facts _ _ (checked (goal.at.bounds-table-2 c).Else-number-ne0)).head in omega (arith, h.long, h.few)
 
 pub returns-then-table-row : goal.returns-then-table-row
@@ -97,23 +96,18 @@ returns-then-table-row c =
     ∙ first_met 7 _ (no_row _ _ e _ c.if-table-row.true))
 
 pub overflow_mul-width : goal.overflow_mul-width
-unfolding event_refused
 overflow_mul-width c = let h = few c in omega arith
 
 pub overflow_add-width : goal.overflow_add-width
-unfolding event_refused
 overflow_add-width c = let h = few c in omega arith
 
 pub overflow_mul-at : goal.overflow_mul-at
-unfolding event_refused
 overflow_mul-at c = let r = at c in omega (arith, r.room, r.few)
 
 pub offset_bounds-table-at : goal.offset_bounds-table-at
-unfolding event_refused
 offset_bounds-table-at c = let r = at c in omega (arith, r.room, r.few)
 
 pub bounds-table-at : goal.bounds-table-at
-unfolding event_refused
 bounds-table-at c = let r = at (goal.at.bounds-table-at c).After-columns_of in omega (arith, r.room)
 
 pub returns-then-not-fits_kind : goal.returns-then-not-fits_kind
@@ -125,7 +119,6 @@ returns-then-not-fits_kind c =
     ∙ first_failed 9 _ (fitting (goal.at.returns-then-not-fits_kind c).After-fits_kind ∙ c.if-not-fits_kind.true))
 
 pub bounds-table-1 : goal.bounds-table-1
-unfolding event_refused
 bounds-table-1 c = let h = (check_facts _ _ (checked (goal.at.bounds-table-1 c).Else-number-ne0)).head in omega (arith, h.long, h.few)
 
 pub returns-then-table : goal.returns-then-table

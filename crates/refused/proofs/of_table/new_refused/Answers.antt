@@ -38,19 +38,15 @@ returns-then-not-plan_fits c =
     ∙ first_failed 1 _ (plan (goal.at.returns-then-not-plan_fits c).After-plan_fits ∙ c.if-not-plan_fits.true))
 
 pub overflow_mul-width : goal.overflow_mul-width
-unfolding new_refused
 overflow_mul-width c = omega (arith, c.requires)
 
 pub overflow_add-width : goal.overflow_add-width
-unfolding new_refused
 overflow_add-width c = omega (arith, c.requires)
 
 pub overflow_mul-plan : goal.overflow_mul-plan
-unfolding new_refused
 overflow_mul-plan c = omega (arith, small c, c.requires)
 
 pub overflow_add-plan : goal.overflow_add-plan
-unfolding new_refused
 overflow_add-plan c = omega (arith, small c, c.requires)
 
 pub returns-then-table-plan : goal.returns-then-table-plan

@@ -27,19 +27,12 @@ returns-then-columns_of-eq-COLUMNS c =
     sym (first_next _ _ (checked (goal.at.returns-then-columns_of-eq-COLUMNS c).Else-number-ne0) ∙ first_met 18 _ (eq-eqb _ _ (sym c.columns_of.ensures ∙ c.if-columns_of-eq-COLUMNS.true)))
 
 pub bounds-table-2 : goal.bounds-table-2
-unfolding widen_refused
 bounds-table-2 c = omega (arith, (check_facts _ _ (checked (goal.at.bounds-table-2 c).Else-number-ne0)).head.long)
 
-pub overflow_cast-table : goal.overflow_cast-table
-unfolding widen_refused
-overflow_cast-table c = omega (arith, c.shared_slice_known-3-1.given 2)
-
 pub overflow_mul-table : goal.overflow_mul-table
-unfolding widen_refused
 overflow_mul-table c = omega (arith, (check_facts _ _ (checked (goal.at.overflow_mul-table c).Else-number-ne0)).head.few)
 
 pub overflow_add-table : goal.overflow_add-table
-unfolding widen_refused
 overflow_add-table c = omega (arith, (check_facts _ _ (checked (goal.at.overflow_add-table c).Else-number-ne0)).head.few)
 
 pub returns-then-wider-table : goal.returns-then-wider-table

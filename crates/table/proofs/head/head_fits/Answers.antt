@@ -19,12 +19,6 @@ bad s h = sym (not_so _ (λ e. h (head_facts s.args.columns s.args.t.now e)))
 pub returns-then-t-width : goal.returns-then-t-width
 returns-then-t-width c = let s = (goal.at.returns-then-t-width c).Start in bad s (λ f. omega arith)
 
-pub overflow_cast-device : goal.overflow_cast-device
-overflow_cast-device c = omega (arith, c.shared_slice_known-2-1.given 0)
-
-pub overflow_cast-rows : goal.overflow_cast-rows
-overflow_cast-rows c = omega (arith, c.shared_slice_known-3-1.given 2)
-
 pub returns-then-columns-device : goal.returns-then-columns-device
 returns-then-columns-device c = let s = (goal.at.returns-then-columns-device c).Start in bad s (λ f. omega arith)
 

@@ -20,9 +20,6 @@ overflow_add-width c = let h = c.requires.2 in omega arith
 pub bounds-table-2 : goal.bounds-table-2
 bounds-table-2 c = omega (arith, (check_facts _ _ c.requires.0).head.long)
 
-pub overflow_cast-rows : goal.overflow_cast-rows
-overflow_cast-rows c = omega (arith, c.shared_slice_known-1.given 2)
-
 pub loop-row-init : goal.loop-row-init
 loop-row-init c = let k = check_facts _ _ c.requires.0 in (search rules, k, later_all _ c.args.clock _ k)
 

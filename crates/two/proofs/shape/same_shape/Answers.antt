@@ -21,9 +21,6 @@ target c = check_facts _ _ c.requires.1
 pub bounds-source-2 : goal.bounds-source-2
 bounds-source-2 c = omega (arith, (source (goal.at.bounds-source-2 c).Start).head.long)
 
-pub overflow_cast-rows : goal.overflow_cast-rows
-overflow_cast-rows c = omega (arith, c.shared_slice_known-3-1.given 2)
-
 pub returns-then-source-target : goal.returns-then-source-target
 returns-then-source-target c =
     let s = (goal.at.returns-then-source-target c).Start in let a = source s in

@@ -59,12 +59,6 @@ read-requires-in-loop-at c = let i = (goal.at.read-requires-in-loop-at c).In-loo
 pub bounds-row-1 : goal.bounds-row-1
 bounds-row-1 c = let i = (goal.at.bounds-row-1 c).In-loop-at in omega (arith, (cut i).long)
 
-pub overflow_cast-at : goal.overflow_cast-at
-overflow_cast-at c = omega (arith, c.shared_slice_known-in-loop-at-2-1.given 1)
-
-pub overflow_mul-at : goal.overflow_mul-at
-overflow_mul-at c = omega (arith, c.shared_slice_known-in-loop-at-2-1.given 1)
-
 pub overflow_add-at : goal.overflow_add-at
 overflow_add-at c = let i = (goal.at.overflow_add-at c).In-loop-at in omega (arith, (cut i).rows)
 

@@ -10,7 +10,9 @@ use lib.ListN.{length, get_or}
 use Rattle.paper.specs.declared.Stamp.{Stamp}
 use Rattle.paper.specs.declared.Content.{Content}
 use Rattle.paper.specs.declared.Clock.{Clock}
-use Rattle.paper.specs.Acts.{Event, creates, changes, removes, event_row}
+use Rattle.paper.specs.declared.Event.{Event}
+use Rattle.paper.specs.declared.Event.TheVariants.{Creates as creates, Changes as changes, Removes as removes}
+use Rattle.paper.specs.Acts.{event_row}
 use Rattle.paper.specs.Tree.{subtree, sheet_here, size, Sheet}
 use Rattle.paper.specs.Words.{wide, kind_number, sheet_words, Table, table_of}
 use Rattle.paper.specs.Check.{check_of}

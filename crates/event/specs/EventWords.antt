@@ -2,7 +2,9 @@
 use Rattle.std.specs.Prelude.{ℕ, suc, ◌≡◌, List, set}
 use Rattle.paper.specs.declared.Stamp.{Stamp}
 use Rattle.paper.specs.declared.Content.{Content}
-use Rattle.paper.specs.Acts.{no_stamp, no_content, Event, creates, changes, removes}
+use Rattle.paper.specs.declared.Event.{Event}
+use Rattle.paper.specs.declared.Event.TheVariants.{Creates as creates, Changes as changes, Removes as removes}
+use Rattle.paper.specs.Acts.{no_stamp, no_content}
 use Rattle.paper.specs.Words.{table_of, written}
 use Rattle.paper.specs.Calls.{event_named, event_done}
 use Rattle.mend.specs.Restamped.{restamped, filled}

@@ -14,7 +14,9 @@ use Rattle.paper.specs.declared.Clock.{Clock}
 use Rattle.paper.specs.declared.Content.{Content}
 use Rattle.paper.specs.Columns.{Vec, zeros, greatest, column, full, covers}
 use Rattle.paper.specs.Rules.{Cell, ruling}
-use Rattle.paper.specs.Acts.{Event, event_row, Choice, settle_row}
+use Rattle.paper.specs.declared.Event.{Event}
+use Rattle.paper.specs.declared.Choice.{Choice}
+use Rattle.paper.specs.Acts.{event_row, settle_row}
 use Rattle.paper.specs.Tree.{end, sheet, folder, mapped, size, subtree, graft, sheet_here, Sheet, Tree, above, later}
 use Rattle.paper.specs.Walk.{Two, left, right, cell, walk, answers}
 use Rattle.paper.specs.Order.{words_of}

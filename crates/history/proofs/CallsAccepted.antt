@@ -14,7 +14,9 @@ use Rattle.paper.specs.declared.Content.{Content}
 use Rattle.paper.specs.declared.Ruling.TheVariants.{KeepOwn, KeepTheirs, Copy, Remove, Conflict}
 use Rattle.paper.specs.Columns.{zeros, greatest, Narrow}
 use Rattle.paper.specs.Rules.{ruling}
-use Rattle.paper.specs.Acts.{Event, fits, Choice, takes_content, choice_takes}
+use Rattle.paper.specs.declared.Event.{Event}
+use Rattle.paper.specs.declared.Choice.{Choice}
+use Rattle.paper.specs.Acts.{fits, takes_content, choice_takes}
 use Rattle.paper.specs.Tree.{Forest, end, sheet, mapped, size, levels, subtree, graft, sheet_here, Sheet, above, later}
 use Rattle.paper.specs.Walk.{Two, zip, left, right, rule_at, walk, answers, looked}
 use Rattle.paper.specs.Words.{Table, table_of, written}

@@ -12,8 +12,14 @@ use Rattle.paper.specs.declared.Content.{Content}
 use Rattle.paper.specs.declared.Ruling.{Ruling}
 use Rattle.paper.specs.declared.Ruling.TheVariants.{KeepOwn, KeepTheirs, Copy, Remove, Conflict}
 use Rattle.paper.specs.Columns.{Vec, greatest, full, covers, Narrow}
-use Rattle.paper.specs.Rules.{Kind, never, live, removed, Row}
-use Rattle.paper.specs.Acts.{Event, creates, changes, removes, is_live, fits, takes_content, event_row, Choice, theirs, own, new, choice_takes, settle_row, with_stamp}
+use Rattle.paper.specs.declared.Kind.{Kind}
+use Rattle.paper.specs.declared.Kind.TheVariants.{Never as never, Live as live, Removed as removed}
+use Rattle.paper.specs.Rules.{Row}
+use Rattle.paper.specs.declared.Event.{Event}
+use Rattle.paper.specs.declared.Event.TheVariants.{Creates as creates, Changes as changes, Removes as removes}
+use Rattle.paper.specs.declared.Choice.{Choice}
+use Rattle.paper.specs.declared.Choice.TheVariants.{Theirs as theirs, Own as own, New as new}
+use Rattle.paper.specs.Acts.{is_live, fits, takes_content, event_row, choice_takes, settle_row, with_stamp}
 use Rattle.paper.specs.Tree.{end, sheet, folder, mapped, Sheet, Tree, later, least, full_least}
 use Rattle.paper.specs.Walk
 use Rattle.paper.specs.Walk.{Two, Pair, left, right, raised, rule_at, over, walk}

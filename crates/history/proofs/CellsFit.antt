@@ -12,7 +12,9 @@ use Rattle.paper.specs.declared.Ruling.{Ruling}
 use Rattle.paper.specs.declared.Ruling.TheVariants.{KeepOwn, KeepTheirs, Copy, Remove, Conflict}
 use Rattle.paper.specs.declared.Stamp.{Stamp}
 use Rattle.paper.specs.Columns.{Vec, covers}
-use Rattle.paper.specs.Rules.{Kind, never, live, removed, Row, Heard, news, rule, Cell, ruling}
+use Rattle.paper.specs.declared.Kind.{Kind}
+use Rattle.paper.specs.declared.Kind.TheVariants.{Never as never, Live as live, Removed as removed}
+use Rattle.paper.specs.Rules.{Row, Heard, news, rule, Cell, ruling}
 use Rattle.laws.proofs.Bools.{and_both, not_so}
 use Rattle.run.specs.Knowledge.{sets, same, ruled, passed}
 use Rattle.history.specs.Vectors.{vectors}

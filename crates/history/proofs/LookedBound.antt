@@ -11,7 +11,8 @@ use borrow.Author.Tests.{eqb-true, leb-true, lt-ltb, le-ltb, not-false}
 use Rattle.paper.specs.declared.Clock.{Clock}
 use Rattle.paper.specs.declared.Stamp.{Stamp}
 use Rattle.paper.specs.Columns.{Vec, zeros, greatest, full, covers}
-use Rattle.paper.specs.Rules.{Kind, never, live, removed}
+use Rattle.paper.specs.declared.Kind.{Kind}
+use Rattle.paper.specs.declared.Kind.TheVariants.{Never as never, Live as live, Removed as removed}
 use Rattle.paper.specs.Tree.{end, sheet, folder, mapped, size, levels, Sheet, stamp_vec, newest, greatest_with, smallest_of, greatest_of, least, most, full_least, full_most, level}
 use Rattle.paper.specs.Walk.{Two, Pair, left, right, cell, over, looked}
 use Rattle.laws.proofs.Bools.{both_and}

@@ -15,7 +15,8 @@ use Rattle.paper.specs.declared.Content.{Content}
 use Rattle.paper.specs.declared.Ruling.TheVariants.{Conflict}
 use Rattle.paper.specs.Columns.{Vec, zeros, greatest, column, full, covers}
 use Rattle.paper.specs.Rules.{Row, Cell, ruling}
-use Rattle.paper.specs.Acts.{fits, event_row, Choice, settle_row}
+use Rattle.paper.specs.declared.Choice.{Choice}
+use Rattle.paper.specs.Acts.{fits, event_row, settle_row}
 use Rattle.paper.specs.Tree.{Forest, end, sheet, subtree, above}
 use Rattle.paper.specs.Walk.{cell, rule_at, walk}
 use Rattle.paper.specs.Words.{Table, written}

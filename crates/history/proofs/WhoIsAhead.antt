@@ -10,7 +10,9 @@ use borrow.Author.Tests.{ltb-true, leb-true, leb-false}
 use Rattle.paper.specs.declared.Ruling.TheVariants.{KeepOwn, Conflict}
 use Rattle.paper.specs.declared.Clock.{Clock}
 use Rattle.paper.specs.Columns.{Vec, full, covers, ahead}
-use Rattle.paper.specs.Rules.{Kind, never, live, removed, Row, Heard, news, rule, ruling}
+use Rattle.paper.specs.declared.Kind.{Kind}
+use Rattle.paper.specs.declared.Kind.TheVariants.{Never as never, Live as live, Removed as removed}
+use Rattle.paper.specs.Rules.{Row, Heard, news, rule, ruling}
 use Rattle.paper.specs.Tree.{end, sheet, mapped, sheet_here, Sheet, above}
 use Rattle.paper.specs.Walk.{Two, zip, left, right, rule_at}
 use Rattle.paper.specs.Words.{Table, table_of}

@@ -10,8 +10,14 @@ use Rattle.paper.specs.declared.Ruling.TheVariants.{KeepOwn, KeepTheirs, Conflic
 use Rattle.paper.specs.declared.Stamp.{Stamp}
 use Rattle.paper.specs.declared.Content.{Content}
 use Rattle.paper.specs.Columns.{Vec}
-use Rattle.paper.specs.Rules.{Kind, never, live, removed, Row, Heard, news, rule, Cell, ruling}
-use Rattle.paper.specs.Acts.{Event, creates, changes, removes, is_live, fits, event_row, Choice, theirs, own, new, birth_of, settle_row}
+use Rattle.paper.specs.declared.Kind.{Kind}
+use Rattle.paper.specs.declared.Kind.TheVariants.{Never as never, Live as live, Removed as removed}
+use Rattle.paper.specs.Rules.{Row, Heard, news, rule, Cell, ruling}
+use Rattle.paper.specs.declared.Event.{Event}
+use Rattle.paper.specs.declared.Event.TheVariants.{Creates as creates, Changes as changes, Removes as removes}
+use Rattle.paper.specs.declared.Choice.{Choice}
+use Rattle.paper.specs.declared.Choice.TheVariants.{Theirs as theirs, Own as own, New as new}
+use Rattle.paper.specs.Acts.{is_live, fits, event_row, birth_of, settle_row}
 use Rattle.run.specs.Knowledge.{Sort, sets}
 use Rattle.history.specs.Vectors.{vectors}
 use Rattle.run.specs.World.{World, begin, next, tick, put, eventful, passing, settling}

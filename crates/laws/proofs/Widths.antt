@@ -16,7 +16,9 @@ use Rattle.paper.specs.declared.Stamp.{Stamp}
 use Rattle.paper.specs.declared.Content.{Content}
 use Rattle.paper.specs.declared.Clock.{Clock}
 use Rattle.paper.specs.Columns.{Vec, zeros, greatest}
-use Rattle.paper.specs.Rules.{Kind, never, live, removed, Row}
+use Rattle.paper.specs.declared.Kind.{Kind}
+use Rattle.paper.specs.declared.Kind.TheVariants.{Never as never, Live as live, Removed as removed}
+use Rattle.paper.specs.Rules.{Row}
 use Rattle.paper.specs.Tree.{end, sheet, folder, size, Tree}
 use Rattle.paper.specs.Words.{wide, Table, table_of, sign, written}
 use Rattle.paper.specs.Refusals.{first, when, tens, unless}

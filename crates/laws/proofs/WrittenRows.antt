@@ -7,7 +7,8 @@ use native.Mathlib.Omega.{arith}
 use lib.ListN.{length, take, drop, replicate, length-append}
 use lib.Seq.{take_at, drop_at, take_all}
 use Rattle.paper.specs.Columns.{Vec, Narrow, vec, part, columns}
-use Rattle.paper.specs.Rules.{Kind, never, live, removed}
+use Rattle.paper.specs.declared.Kind.{Kind}
+use Rattle.paper.specs.declared.Kind.TheVariants.{Never as never, Live as live, Removed as removed}
 use Rattle.paper.specs.Tree.{end, sheet, folder, mapped, size, levels, Sheet, Tree}
 use Rattle.paper.specs.Order.{forest_of, words_of}
 use Rattle.paper.specs.Words.{wide, kind_of, kind_number, row_of, newest_at, least_at, most_at, floor_of, sheet_of, tree_from, sheet_words, folder_words, rows_of, tree_words, floor_at}

@@ -13,7 +13,7 @@ use Rattle.paper.specs.declared.Clock.{Clock}
 use Rattle.paper.specs.declared.Stamp.{Stamp}
 use Rattle.paper.specs.declared.Content.{Content}
 use Rattle.paper.specs.Columns.{Vec, vec, full, covers, alike, part}
-use Rattle.paper.specs.Rules.{never, live, removed}
+use Rattle.paper.specs.declared.Kind.TheVariants.{Never as never, Live as live, Removed as removed}
 use Rattle.paper.specs.Tree.{greatest_with}
 use Rattle.paper.specs.Words.{wide, floor_at, newest_at, least_at, most_at, kind_of, row_of, floor_of}
 use Rattle.paper.specs.Check.{blank, proper, absent, content_fits, content_absent, laid, known, sheet_fits, summed}

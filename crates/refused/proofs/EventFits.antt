@@ -8,8 +8,10 @@ use native.Mathlib.Omega.{arith}
 use lib.Dec.{eqb}
 use borrow.Author.Tests.{eq-eqb, ne_eqb}
 use lib.ListN.{get_or}
-use Rattle.paper.specs.Acts.{Event, changes, removes, fits, is_live}
-use Rattle.paper.specs.Rules.{never, live, removed}
+use Rattle.paper.specs.declared.Event.{Event}
+use Rattle.paper.specs.declared.Event.TheVariants.{Changes as changes, Removes as removes}
+use Rattle.paper.specs.Acts.{fits, is_live}
+use Rattle.paper.specs.declared.Kind.TheVariants.{Never as never, Live as live, Removed as removed}
 use Rattle.paper.specs.Tree.{subtree, sheet_here}
 use Rattle.paper.specs.Order.{kind_word}
 use Rattle.paper.specs.Words.{wide, kind_of, row_of, sheet_of, table_of}

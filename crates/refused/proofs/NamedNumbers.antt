@@ -5,7 +5,9 @@ use mathlib.Core.Bool.{Bool, true, false, not, cond}
 use native.Mathlib.Omega.{arith}
 use lib.Dec.{leb, eqb}
 use borrow.Author.Tests.{lt-ltb, le-ltb, eq-eqb, ne_eqb}
-use Rattle.paper.specs.Acts.{changes, removes, takes_content, own, new, choice_takes}
+use Rattle.paper.specs.declared.Event.TheVariants.{Changes as changes, Removes as removes}
+use Rattle.paper.specs.declared.Choice.TheVariants.{Own as own, New as new}
+use Rattle.paper.specs.Acts.{takes_content, choice_takes}
 use Rattle.paper.specs.Calls.{one_to_three, event_named, choice_named}
 
 -- an event or a choice is 1, 2 or 3

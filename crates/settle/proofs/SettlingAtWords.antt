@@ -9,8 +9,12 @@ use Rattle.paper.specs.declared.Stamp.{Stamp}
 use Rattle.paper.specs.declared.Content.{Content}
 use Rattle.paper.specs.declared.Clock.{Clock}
 use Rattle.paper.specs.Columns.{Vec, full}
-use Rattle.paper.specs.Rules.{Kind, never, live, removed, Row}
-use Rattle.paper.specs.Acts.{Choice, theirs, own, new, birth_of, with_stamp, settle_row}
+use Rattle.paper.specs.declared.Kind.{Kind}
+use Rattle.paper.specs.declared.Kind.TheVariants.{Never as never, Live as live, Removed as removed}
+use Rattle.paper.specs.Rules.{Row}
+use Rattle.paper.specs.declared.Choice.{Choice}
+use Rattle.paper.specs.declared.Choice.TheVariants.{Theirs as theirs, Own as own, New as new}
+use Rattle.paper.specs.Acts.{birth_of, with_stamp, settle_row}
 use Rattle.paper.specs.Tree.{sheet_here, Sheet, above}
 use Rattle.paper.specs.Walk.{Two, zip, raised, rule_at}
 use Rattle.paper.specs.Words.{kind_number, floor_of, sheet_words, Table, table_of}

@@ -3,7 +3,8 @@ use Rattle.std.specs.Prelude.{ℕ, suc, ◌≡◌, cond, List, eqb, get_or, set}
 use Rattle.paper.specs.declared.Content.{Content}
 use Rattle.paper.specs.declared.Clock.{Clock}
 use Rattle.paper.specs.Columns.{Vec}
-use Rattle.paper.specs.Acts.{Choice, theirs, own, new}
+use Rattle.paper.specs.declared.Choice.{Choice}
+use Rattle.paper.specs.declared.Choice.TheVariants.{Theirs as theirs, Own as own, New as new}
 use Rattle.paper.specs.Walk.{raised}
 use Rattle.paper.specs.Words.{floor_of, table_of, written}
 use Rattle.paper.specs.Order.{kind_word}

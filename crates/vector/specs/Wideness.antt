@@ -4,7 +4,8 @@ use Rattle.paper.specs.Devices.{narrow_columns, wide_columns}
 use Rattle.paper.specs.Widths.{eight_or_sixteen}
 use Rattle.vector.specs.declared.row.Columns.{Columns}
 use Rattle.vector.specs.declared.row.Columns.TheVariants.{Eight, Sixteen}
-use Rattle.vector.specs.declared.row.NoSuchWidth.{NoSuchWidth}
+use Rattle.paper.specs.declared.Refusal.{Refusal}
+use Rattle.paper.specs.declared.Refusal.TheVariants.{Width}
 
 -- the columns of each
 abbrev pub columns_in : Columns → ℕ
@@ -12,5 +13,5 @@ columns_in Eight = narrow_columns
 columns_in Sixteen = wide_columns
 
 -- the width with so many columns, or none where there is no such
-abbrev pub Names : ℕ → Result Columns NoSuchWidth → Type 0
-Names n r = MatchResult r (λ c. columns_in c ≡ n) (λ e. (e.0 ≡ n) × (eight_or_sixteen n ≡ false))
+abbrev pub Names : ℕ → Result Columns Refusal → Type 0
+Names n r = MatchResult r (λ c. columns_in c ≡ n) (λ e. (eight_or_sixteen n ≡ false) × (e ≡ Width))

@@ -7,7 +7,8 @@ use lib.ListN.{length, take, drop}
 use lib.Seq.{take_at, drop_at}
 use Rattle.paper.specs.declared.Clock.{Clock}
 use Rattle.paper.specs.Columns.{Vec, greatest}
-use Rattle.paper.specs.Rules.{Kind, never, live, removed}
+use Rattle.paper.specs.declared.Kind.{Kind}
+use Rattle.paper.specs.declared.Kind.TheVariants.{Never as never, Live as live, Removed as removed}
 use Rattle.paper.specs.Tree.{end, sheet, folder, mapped, size, plus, Sheet, Tree}
 use Rattle.paper.specs.Walk.{Two, Pair, left, right}
 use Rattle.paper.specs.Order.{kind_word, size_word, words_of}

@@ -9,8 +9,8 @@ use Rattle.paper.specs.declared.Refusal.TheVariants.{Width}
 
 -- the columns of each
 abbrev pub columns_in : Columns → ℕ
-columns_in Eight = narrow_columns
-columns_in Sixteen = wide_columns
+columns_in (Eight w) = narrow_columns
+columns_in (Sixteen w) = wide_columns
 
 -- the width with so many columns, or none where there is no such
 abbrev pub Names : ℕ → Result Columns Refusal → Type 0

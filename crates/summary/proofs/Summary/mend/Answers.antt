@@ -1,23 +1,19 @@
--- At either width.
-use mathlib.Core.Path.{◌≡◌}
-use native.Mathlib.Omega.{arith}
-use Rattle.paper.specs.Widths.{wide_columns}
-use Rattle.laws.proofs.Widths.{width_wide}
-use Rattle.summary.proofs.SiblingSums.{mended_at}
+-- What the folder comes to is put into its row, vector by vector.
+use mathlib.Core.Path.{◌≡◌, ap, ◌∙◌}
+use Rattle.paper.specs.Columns.{Vec, vec}
+use Rattle.paper.specs.Words.{floor_of}
+use Rattle.summary.specs.Sums.{Sums, said, sums_under}
+use Rattle.summary.proofs.SiblingSums.{given_some, mended_by_lem}
 use Rattle.summary.proofs.Summary.mend.Goals as goal
-use Rattle.summary.proofs.Summary.mend.Goals.{Else-columns-eq-COLUMNS}
+use Rattle.summary.proofs.Summary.mend.Given.{Over}
+use Rattle.summary.proofs.Summary.mend.Goals.{After-under-s}
 
-sixteen : (c : Else-columns-eq-COLUMNS) → c.args.columns ≡ wide_columns
-sixteen c = width_wide _ c.requires.width c.if-columns-eq-COLUMNS.false
-
-pub mend-requires : goal.mend-requires
-mend-requires c = omega (arith, c.requires.columns_in_bounds, c.if-columns-eq-COLUMNS.true)
-
-pub returns-then-columns-eq-COLUMNS : goal.returns-then-columns-eq-COLUMNS
-returns-then-columns-eq-COLUMNS c = mended_at _ _ c.if-columns-eq-COLUMNS.true c.mend.ensures
-
-pub mend-requires-2 : goal.mend-requires-2
-mend-requires-2 c = omega (arith, c.requires.columns_in_bounds, sixteen (goal.at.mend-requires-2 c).Else-columns-eq-COLUMNS)
+came : (g : Over) (c : After-under-s g) → let q = c.args in
+    said c.under-s.result ≡ sums_under (floor_of g.row.N q.row.now) (said q.self)
+came g c = c.under-s.ensures ∙ ap (λ (f : Vec). sums_under f (said c.args.self)) c.read-floor.ensures
 
 pub returns : goal.returns
-returns c = mended_at _ _ (sixteen (goal.at.returns c).Else-columns-eq-COLUMNS) c.mend-2.ensures
+returns g c =
+    let u = (goal.at.returns g c).After-under-s in let s = c.under-s.result in
+    mended_by_lem g.row.N _ _ _ _ _ (vec s.newest.0) (vec s.least.0) (vec s.most.0) c.write.ensures c.write-2.ensures c.write-3.ensures
+    (ap (λ (x : Sums). x.newest) (came g u)) (given_some s.any (ap (λ (x : Sums). x.least) (came g u))) (ap (λ (x : Sums). x.most) (came g u))

@@ -5,6 +5,7 @@ use Rattle.paper.specs.Words.{wide, least_at}
 use Rattle.vector.proofs.ColumnLoops.{zeros_vec}
 use Rattle.vector.proofs.Parts.{none_rows}
 use Rattle.summary.specs.Sums.{stored, place_of}
+use Rattle.summary.proofs.SiblingSums.{sums_none}
 use Rattle.summary.proofs.Gathered.{Gathered, Cut, row_at, gathered_as, gather_start, row_cut, gather_all, place_room}
 use borrow.Author.Rules.{rules}
 use native.Mathlib.Omega.{arith}
@@ -29,7 +30,7 @@ cut g c = let l = c.loop-at in row_cut (w g) (words g c) l.at _ _ _ l.invariant.
 
 pub returns-then-t-eq0 : goal.returns-then-t-eq0
 unfolding stored
-returns-then-t-eq0 g c = c.none.ensures ∙ sym (ap (stored (w g)) (none_rows (wide (w g)) c.args.t.now c.if-t-eq0.true))
+returns-then-t-eq0 g c = sym sums_none ∙ sym (ap (stored (w g)) (none_rows (wide (w g)) c.args.t.now c.if-t-eq0.true))
 
 pub read-least-requires : goal.read-least-requires
 read-least-requires g c =

@@ -2,42 +2,34 @@
 
 #![tactic(auto)]
 
-pub mod narrow;
-pub mod wide;
-
 ghost use Rattle.std.specs.Prelude.{◌≡◌, true, ◌&&◌, eqb, ◌≤◌, ◌<◌, length};
 ghost use Rattle.paper.specs.Columns.{vec, full, covers};
 ghost use Rattle.paper.specs.Words.{wide, floor_at, row_of, floor_of};
-ghost use Rattle.paper.specs.Widths.{Width};
 ghost use Rattle.paper.specs.Check.{proper, absent, content_fits, content_absent, laid, known, sheet_fits, summed};
-ghost use Rattle.paper.specs.Devices.{devices};
 ghost use Rattle.summary.specs.Sums.{said};
 ghost use Rattle.layout.specs.FolderSums.{folder_by};
 
 use paper::{Clock, Content, Stamp};
 use summary::Summary;
-use vector::Vector;
-use vector::row::{Narrow, Row, Wide};
+use vector::above::Above;
+use vector::row::Row;
+use vector::width::Width;
+use vector::{Vector, is_blank};
 
 // In a stamp or birth the device is a column and the count at least 1.
-fn is_proper(s: Stamp, columns: usize) -> bool
-    ensures { result ≡ proper columns s }
+#[tactic(auto, unfolding(paper::specs::Check::proper))]
+fn is_proper<const N: usize>(s: Stamp, w: Width<N>) -> bool
+    ensures { result ≡ proper N s }
 {
-    if columns <= s.device as usize {
-        return false;
-    }
-    0 < s.count
+    (s.device as usize) < N && 0 < s.count
 }
 
 // It is the stamp of no event.
+#[tactic(auto, unfolding(paper::specs::Check::absent))]
 fn is_absent(s: Stamp) -> bool
     ensures { result ≡ absent s }
 {
-    let empty = Stamp::empty();
-    if s.device != empty.device {
-        return false;
-    }
-    s.count == empty.count
+    s == Stamp::empty()
 }
 
 // A row's stamp.
@@ -69,21 +61,15 @@ fn content_of(r: &[u32]) -> Content
 fn content_fits(content: Content) -> bool
     ensures { result ≡ content_fits content }
 {
-    if Content::MOST_CLASS < content.class {
-        return false;
-    }
-    0 < content.mark
+    content.class <= Content::MOST_CLASS && 0 < content.mark
 }
 
 // It is no content.
+#[tactic(auto, unfolding(paper::specs::Check::content_absent))]
 fn is_empty(content: Content) -> bool
     ensures { result ≡ content_absent content }
 {
-    let none = Content::none();
-    if content.mark != none.mark {
-        return false;
-    }
-    content.class == none.class
+    content == Content::none()
 }
 
 // There is no birth and no content.
@@ -91,121 +77,94 @@ fn is_unborn(r: &[u32]) -> bool
     requires { floor_at ≤ length r.now }
     ensures { result ≡ (absent (row_of r.now).birth && content_absent (row_of r.now).content) }
 {
-    if !is_absent(birth_of(r)) {
-        return false;
-    }
-    is_empty(content_of(r))
+    is_absent(birth_of(r)) && is_empty(content_of(r))
 }
 
 // Stamp, birth and content are as the kind of the row says.
-fn is_laid(r: &[u32], columns: usize) -> bool
+#[tactic(auto, unfolding(paper::specs::Check::laid, paper::specs::Words::row_of, paper::specs::Words::kind_of))]
+fn is_laid<const N: usize>(r: &[u32], w: Width<N>) -> bool
     requires { floor_at ≤ length r.now }
-    ensures { result ≡ laid columns (row_of r.now).kind (row_of r.now) }
+    ensures { result ≡ laid N (row_of r.now).kind (row_of r.now) }
 {
-    let kind = r[Row::KIND];
     let stamp = stamp_of(r);
-    if kind == Row::LIVE {
-        if !is_proper(stamp, columns) {
-            return false;
-        }
-        if !is_proper(birth_of(r), columns) {
-            return false;
-        }
-        return content_fits(content_of(r));
+    match r[Row::KIND] {
+        Row::LIVE => is_proper(stamp, w)
+            && is_proper(birth_of(r), w)
+            && content_fits(content_of(r)),
+        Row::REMOVED => is_proper(stamp, w) && is_unborn(r),
+        _ => is_absent(stamp) && is_unborn(r),
     }
-    if kind == Row::REMOVED {
-        if !is_proper(stamp, columns) {
-            return false;
-        }
-        return is_unborn(r);
-    }
-    if !is_absent(stamp) {
-        return false;
-    }
-    is_unborn(r)
 }
 
-// Is the stamp or birth covered by the known time of the row r under the floors u?
-fn is_covered(r: &[u32], clock: Clock, u: Vector, stamp: Stamp, columns: usize) -> bool
-    requires { (wide columns ≤ length r.now) × (stamp.device < columns) × (columns ≤ devices) }
-    ensures { result ≡ covers (full clock (vec u.0) (floor_of columns r.now)) stamp }
+// Is the stamp or birth covered by the known time of the row r under what is above?
+fn is_covered<const N: usize>(r: &[u32], above: Above, stamp: Stamp, w: Width<N>) -> bool
+    requires { (wide N ≤ length r.now) × (stamp.device < N) }
+    ensures { result ≡ covers (full above.clock (vec above.floors.0) (floor_of N r.now)) stamp }
 {
-    if stamp.device == clock.device {
-        return stamp.count <= clock.counter;
+    if stamp.device == above.clock.device {
+        return stamp.count <= above.clock.counter;
     }
     let column = stamp.device as usize;
-    let above = u.0;
-    if stamp.count <= above[column] {
-        return true;
-    }
-    stamp.count <= r[Row::FLOOR + column]
+    let floors = above.floors.0;
+    stamp.count <= floors[column] || stamp.count <= r[Row::FLOOR + column]
 }
 
-// The stamps of a row that is laid out as its kind says are covered by its known time under the floors u.
-fn is_known(r: &[u32], clock: Clock, u: Vector, columns: usize) -> bool
-    requires { (wide columns ≤ length r.now) × (laid columns (row_of r.now).kind (row_of r.now) ≡ true) × (0 < columns) × (columns ≤ devices) }
-    ensures { result ≡ known (full clock (vec u.0) (floor_of columns r.now)) (row_of r.now).kind (row_of r.now) }
+// The stamps of a row that is laid out as its kind says are covered by its known time under what is above.
+#[tactic(auto, unfolding(paper::specs::Check::known, paper::specs::Words::row_of, paper::specs::Words::kind_of))]
+fn is_known<const N: usize>(r: &[u32], above: Above, w: Width<N>) -> bool
+    requires { (wide N ≤ length r.now) × (laid N (row_of r.now).kind (row_of r.now) ≡ true) }
+    ensures { result ≡ known (full above.clock (vec above.floors.0) (floor_of N r.now)) (row_of r.now).kind (row_of r.now) }
 {
-    let kind = r[Row::KIND];
     let stamp = stamp_of(r);
-    if kind == Row::LIVE {
-        if !is_covered(r, clock, u, stamp, columns) {
-            return false;
-        }
-        return is_covered(r, clock, u, birth_of(r), columns);
+    match r[Row::KIND] {
+        Row::LIVE => is_covered(r, above, stamp, w) && is_covered(r, above, birth_of(r), w),
+        Row::REMOVED => is_covered(r, above, stamp, w),
+        _ => true,
     }
-    if kind == Row::REMOVED {
-        return is_covered(r, clock, u, stamp, columns);
-    }
-    true
 }
 
 // The own column of a row's floor is zero.
-fn is_own_zero(r: &[u32], clock: Clock, columns: usize) -> bool
-    requires { (wide columns ≤ length r.now) × (clock.device < columns) }
-    ensures { result ≡ eqb (floor_of columns r.now clock.device) 0 }
+fn is_own_zero<const N: usize>(r: &[u32], clock: Clock, w: Width<N>) -> bool
+    requires { (wide N ≤ length r.now) × (clock.device < N) }
+    ensures { result ≡ eqb (floor_of N r.now clock.device) 0 }
 {
     let own = clock.device as usize;
     r[Row::FLOOR + own] == 0
 }
 
-// A sheet's row fits, under the floors u.
-pub fn sheet_fits(r: &[u32], clock: Clock, u: Vector, columns: usize) -> bool
-    requires width { Width columns }
-    requires r_len { (length r.now ≡ wide columns) × (clock.device < columns) }
-    ensures { result ≡ sheet_fits columns clock (vec u.0) r.now }
+// A sheet's row fits, under what is above.
+#[tactic(auto, unfolding(paper::specs::Check::sheet_fits))]
+pub fn sheet_fits<const N: usize>(r: &[u32], above: Above, w: Width<N>) -> bool
+    requires { (length r.now ≡ wide N) × (above.clock.device < N) }
+    ensures { result ≡ sheet_fits N above.clock (vec above.floors.0) r.now }
 {
-    if columns == Narrow::COLUMNS {
-        return narrow::sheet_fits(r, clock, u);
-    }
-    wide::sheet_fits(r, clock, u)
+    is_laid(r, w)
+        && is_own_zero(r, above.clock, w)
+        && is_blank(&r[Row::FLOOR + N..Row::FLOOR + 4 * N])
+        && is_known(r, above, w)
 }
 
 // The summaries in a folder's row are these.
-fn is_summed(r: &[u32], own: Summary, columns: usize) -> bool
-    requires { (wide columns ≤ length r.now) × (columns ≤ devices) }
-    ensures { result ≡ summed columns r.now (vec own.newest.0) (vec own.least.0) (vec own.most.0) }
+fn is_summed<const N: usize>(r: &[u32], own: Summary, w: Width<N>) -> bool
+    requires { wide N ≤ length r.now }
+    ensures { result ≡ summed N r.now (vec own.newest.0) (vec own.least.0) (vec own.most.0) }
 {
-    let newest = own.newest;
-    if !Vector::read(r, Row::FLOOR + columns, columns).same(newest, columns) {
-        return false;
-    }
-    let least = own.least;
-    if !Vector::read(r, Row::FLOOR + 2 * columns, columns).same(least, columns) {
-        return false;
-    }
-    let most = own.most;
-    Vector::read(r, Row::FLOOR + 3 * columns, columns).same(most, columns)
+    let said = Summary::of_folder(r, w);
+    said.newest.same(own.newest, N) && said.least.same(own.least, N) && said.most.same(own.most, N)
 }
 
 // A folder's row fits, whose children come to `under`.
-pub fn folder_fits(r: &[u32], clock: Clock, under: Summary, columns: usize) -> bool
-    requires width { Width columns }
-    requires r_len { (length r.now ≡ wide columns) × (clock.device < columns) }
-    ensures { result ≡ folder_by columns clock r.now (said under) }
+#[tactic(auto, unfolding(crate::specs::FolderSums::folder_by))]
+pub fn folder_fits<const N: usize>(
+    r: &[u32],
+    clock: Clock,
+    under: Option<Summary>,
+    w: Width<N>,
+) -> bool
+    requires { (length r.now ≡ wide N) × (clock.device < N) }
+    ensures { result ≡ folder_by N clock r.now (said under) }
 {
-    if columns == Narrow::COLUMNS {
-        return narrow::folder_fits(r, clock, under);
-    }
-    wide::folder_fits(r, clock, under)
+    is_blank(&r[Row::STAMP..Row::FLOOR])
+        && is_own_zero(r, clock, w)
+        && is_summed(r, Summary::under(under, Vector::read(r, Row::FLOOR, N)), w)
 }

@@ -1,11 +1,11 @@
 -- A number of columns that there is, is eight or it is sixteen.
 use borrow.Author.Tests.{eqb-true}
-use mathlib.Core.Bool.{Bool, true, false, ◌||◌}
+use mathlib.Core.Bool.{Bool, true, false}
 use mathlib.Core.Logic.{inl, inr}
 use mathlib.Core.Path.{◌≡◌, refl}
 use lib.Dec.{eqb}
 use Prim.Native.Nat.{ℕ}
-use Rattle.paper.specs.Devices.{narrow_columns, wide_columns}
+use Rattle.paper.specs.Devices.{narrow_columns}
 use Rattle.paper.specs.Widths.{Width, eight_or_sixteen}
 use Rattle.laws.proofs.Bools.{or_right}
 

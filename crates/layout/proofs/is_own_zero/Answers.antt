@@ -5,4 +5,4 @@ use mathlib.Core.Path.{sym, ap}
 use Rattle.layout.proofs.is_own_zero.Goals as goal
 
 pub returns : goal.returns
-returns c = sym (ap (λ n. eqb n 0) (floor_word c.args.columns c.args.r.now c.args.clock.device c.requires.1))
+returns g c = sym (ap (λ n. eqb n 0) (floor_word g.row.N c.args.r.now c.args.clock.device c.requires.1))

@@ -6,14 +6,14 @@ use mathlib.Core.Path.{ap, ◌∙◌}
 use Rattle.table.proofs.head.write_head.Goals as goal
 
 pub bounds-t-1 : goal.bounds-t-1
-bounds-t-1 c = simp length-set (omega (arith, c.blank_out.auto.t, c.requires.0))
+bounds-t-1 g c = simp length-set (omega (arith, c.blank_out.auto.t, c.requires))
 
 pub bounds-t-2 : goal.bounds-t-2
-bounds-t-2 c = simp length-set (omega (arith, c.blank_out.auto.t, c.requires.0))
+bounds-t-2 g c = simp length-set (omega (arith, c.blank_out.auto.t, c.requires))
 
 pub bounds-t-3 : goal.bounds-t-3
-bounds-t-3 c = simp length-set (omega (arith, c.blank_out.auto.t, c.requires.0))
+bounds-t-3 g c = simp length-set (omega (arith, c.blank_out.auto.t, c.requires))
 
 pub returns : goal.returns
-returns c =
-    head_set c.args.columns _ _ _ _ _ (c.blank_out.ensures ∙ ap (λ x. replicate x 0) c.requires.0) c.sign_of-sign.ensures
+returns g c =
+    head_set g.row.N _ _ _ _ _ (c.blank_out.ensures ∙ ap (λ x. replicate x 0) c.requires) c.sign_of-sign.ensures

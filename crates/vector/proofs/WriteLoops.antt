@@ -4,13 +4,12 @@ use mathlib.Core.Path.{◌≡◌, refl, sym, subst, ◌∙◌, fun_ext}
 use mathlib.Core.List.{List}
 use mathlib.Core.Bool.{Bool, true, false}
 use mathlib.Core.Logic.{⊎_elim}
-use native.Mathlib.Numerals.{add-one}
 use native.Mathlib.Nat.{eq-or-lt_of_le}
 use native.Mathlib.Omega.{arith}
 use lib.Dec.{leb}
 use borrow.Author.Tests.{leb-true, leb-false}
-use lib.ListN.{length, get_or, take, set, length-set, get_or-eq_default}
-use lib.Seq.{ext_get_or, get_or-set_same, get_or-set_other, take-suc, take-suc-set}
+use lib.ListN.{length, get_or, set, length-set, get_or-eq_default}
+use lib.Seq.{ext_get_or, get_or-set_same, get_or-set_other}
 use Rattle.paper.specs.Columns.{Vec, vec, columns}
 use Rattle.laws.proofs.Columns.{length_columns, columns_at}
 use Rattle.vector.specs.Places.{extreme_of}
@@ -72,7 +71,3 @@ upto_columns {f} {a₀} {a} {i} u l =
 pub extreme_none : {a b : ℕ} (most : Bool) → a ≡ 0 → b ≡ 0 → extreme_of most a b ≡ 0
 extreme_none true e f = omega arith
 extreme_none false e f = omega arith
-
--- one place more is copied
-pub copy_step : (a b : List ℕ) (i : ℕ) → i < length a → i < length b → take i a ≡ take i b → take (i + 1) (set a i (get_or b i 0)) ≡ take (i + 1) b
-copy_step a b i p q e = rw (add-one, take-suc-set a i (get_or b i 0), take-suc b i 0, e)

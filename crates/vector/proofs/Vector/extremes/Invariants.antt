@@ -1,5 +1,4 @@
 -- The loop's invariant: the columns passed hold the greatest or the smallest, the others what stood there.
-use Prim.Native.Nat.{◌-◌}
 use mathlib.Core.Path.{◌≡◌}
 use lib.ListN.{length}
 use Rattle.paper.specs.Columns.{vec}
@@ -10,6 +9,3 @@ use Rattle.vector.proofs.Vector.extremes.Given as goal
 
 abbrev pub invariant-loop-i : goal.invariant-loop-i
 invariant-loop-i l = (length l.initial.a ≡ devices) × (length l.b ≡ devices) × Upto (λ j. extreme_of l.most (vec l.initial.a j) (vec l.b j)) l.initial.a l.a l.i
-
-abbrev pub decreases-loop-i : goal.decreases-loop-i
-decreases-loop-i l = devices - l.i

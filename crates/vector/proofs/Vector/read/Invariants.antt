@@ -1,5 +1,5 @@
 -- The loop's invariant: the columns passed hold what was read, the others zero.
-use Prim.Native.Nat.{◌-◌, ◌≤◌}
+use Prim.Native.Nat.{◌≤◌}
 use mathlib.Core.Path.{◌≡◌}
 use lib.ListN.{length}
 use Rattle.paper.specs.Columns.{vec, zeros, part}
@@ -9,6 +9,3 @@ use Rattle.vector.proofs.Vector.read.Given as goal
 
 abbrev pub invariant-loop-i : goal.invariant-loop-i
 invariant-loop-i l = (length l.initial.a ≡ devices) × (vec l.initial.a ≡ zeros) × (l.i ≤ l.columns) × Upto (part l.columns l.at l.t) l.initial.a l.a l.i
-
-abbrev pub decreases-loop-i : goal.decreases-loop-i
-decreases-loop-i l = l.columns - l.i

@@ -12,7 +12,6 @@ use lib.ListN.{length, get_or, set, length-set, get_or-eq_default}
 use lib.Seq.{ext_get_or, get_or-set_same, get_or-set_other}
 use Rattle.paper.specs.Columns.{Vec, vec, columns}
 use Rattle.laws.proofs.Columns.{length_columns, columns_at}
-use Rattle.vector.specs.Places.{extreme_of}
 
 -- a is what f says up to place i, and what stood in a₀ from i on
 pub record Upto (f : Vec) (a₀ a : List ℕ) (i : ℕ) : Type 0 where
@@ -66,8 +65,3 @@ pub upto_columns : {f : Vec} {a₀ a : List ℕ} {i : ℕ} → Upto f a₀ a i �
 upto_columns {f} {a₀} {a} {i} u l =
     ext_get_or 0 a (columns (length a₀) f) (u.long ∙ sym (length_columns (length a₀) f))
     (λ k lk. let h : k < length a₀ = omega (arith, u.long) in u.done k (omega arith) ∙ sym (columns_at (length a₀) f k h))
-
--- of two zeros
-pub extreme_none : {a b : ℕ} (most : Bool) → a ≡ 0 → b ≡ 0 → extreme_of most a b ≡ 0
-extreme_none true e f = omega arith
-extreme_none false e f = omega arith

@@ -52,14 +52,6 @@ upto_all {f} {a₀} {a} {i} u l h = fun_ext (λ k. at k (leb (suc k) i) refl)
         get_or-eq_default a 0 (omega (arith, leb-false (suc k) i e, u.long))
         ∙ sym (h k (omega (arith, leb-false (suc k) i e)))
 
--- what is not written is what f says too
-pub upto_here : {f : Vec} {a₀ a : List ℕ} {i : ℕ} → Upto f a₀ a i → ((k : ℕ) → i ≤ k → get_or a₀ k 0 ≡ f k) → vec a ≡ f
-upto_here {f} {a₀} {a} {i} u h = fun_ext (λ k. at k (leb (suc k) i) refl)
-  where
-    at : (k : ℕ) (t : Bool) → leb (suc k) i ≡ t → get_or a k 0 ≡ f k
-    at k true e = u.done k (leb-true (suc k) i e)
-    at k false e = let l : i ≤ k = omega (arith, leb-false (suc k) i e) in u.left k l ∙ h k l
-
 -- all is written, place by place
 pub upto_columns : {f : Vec} {a₀ a : List ℕ} {i : ℕ} → Upto f a₀ a i → length a₀ ≤ i → a ≡ columns (length a₀) f
 upto_columns {f} {a₀} {a} {i} u l =

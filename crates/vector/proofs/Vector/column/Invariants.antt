@@ -7,4 +7,4 @@ use Rattle.vector.proofs.WriteLoops.{Upto}
 use Rattle.vector.proofs.Vector.column.Given as goal
 
 abbrev pub invariant-loop-i : goal.invariant-loop-i
-invariant-loop-i l = (length l.initial.a ≡ devices) × Upto (column l.d l.n (vec l.initial.a)) l.initial.a l.a l.i
+invariant-loop-i l = (length l.initial.count-items ≡ devices) × Upto (column l.d l.n (vec l.initial.count-items)) l.initial.count-items l.count-items l.i

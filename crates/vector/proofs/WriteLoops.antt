@@ -4,16 +4,14 @@ use mathlib.Core.Path.{◌≡◌, refl, sym, subst, ◌∙◌, fun_ext}
 use mathlib.Core.List.{List}
 use mathlib.Core.Bool.{Bool, true, false}
 use mathlib.Core.Logic.{⊎_elim}
-use native.Mathlib.Numerals.{add-one}
 use native.Mathlib.Nat.{eq-or-lt_of_le}
 use native.Mathlib.Omega.{arith}
 use lib.Dec.{leb}
 use borrow.Author.Tests.{leb-true, leb-false}
-use lib.ListN.{length, get_or, take, set, length-set, get_or-eq_default}
-use lib.Seq.{ext_get_or, get_or-set_same, get_or-set_other, take-suc, take-suc-set}
+use lib.ListN.{length, get_or, set, length-set, get_or-eq_default}
+use lib.Seq.{ext_get_or, get_or-set_same, get_or-set_other}
 use Rattle.paper.specs.Columns.{Vec, vec, columns}
 use Rattle.laws.proofs.Columns.{length_columns, columns_at}
-use Rattle.vector.specs.Places.{extreme_of}
 
 -- a is what f says up to place i, and what stood in a₀ from i on
 pub record Upto (f : Vec) (a₀ a : List ℕ) (i : ℕ) : Type 0 where
@@ -54,25 +52,8 @@ upto_all {f} {a₀} {a} {i} u l h = fun_ext (λ k. at k (leb (suc k) i) refl)
         get_or-eq_default a 0 (omega (arith, leb-false (suc k) i e, u.long))
         ∙ sym (h k (omega (arith, leb-false (suc k) i e)))
 
--- what is not written is what f says too
-pub upto_here : {f : Vec} {a₀ a : List ℕ} {i : ℕ} → Upto f a₀ a i → ((k : ℕ) → i ≤ k → get_or a₀ k 0 ≡ f k) → vec a ≡ f
-upto_here {f} {a₀} {a} {i} u h = fun_ext (λ k. at k (leb (suc k) i) refl)
-  where
-    at : (k : ℕ) (t : Bool) → leb (suc k) i ≡ t → get_or a k 0 ≡ f k
-    at k true e = u.done k (leb-true (suc k) i e)
-    at k false e = let l : i ≤ k = omega (arith, leb-false (suc k) i e) in u.left k l ∙ h k l
-
 -- all is written, place by place
 pub upto_columns : {f : Vec} {a₀ a : List ℕ} {i : ℕ} → Upto f a₀ a i → length a₀ ≤ i → a ≡ columns (length a₀) f
 upto_columns {f} {a₀} {a} {i} u l =
     ext_get_or 0 a (columns (length a₀) f) (u.long ∙ sym (length_columns (length a₀) f))
     (λ k lk. let h : k < length a₀ = omega (arith, u.long) in u.done k (omega arith) ∙ sym (columns_at (length a₀) f k h))
-
--- of two zeros
-pub extreme_none : {a b : ℕ} (most : Bool) → a ≡ 0 → b ≡ 0 → extreme_of most a b ≡ 0
-extreme_none true e f = omega arith
-extreme_none false e f = omega arith
-
--- one place more is copied
-pub copy_step : (a b : List ℕ) (i : ℕ) → i < length a → i < length b → take i a ≡ take i b → take (i + 1) (set a i (get_or b i 0)) ≡ take (i + 1) b
-copy_step a b i p q e = rw (add-one, take-suc-set a i (get_or b i 0), take-suc b i 0, e)

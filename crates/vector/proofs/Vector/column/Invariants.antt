@@ -1,5 +1,4 @@
 -- The loop's invariant: the columns passed hold n in column d and else what stood there.
-use Prim.Native.Nat.{◌-◌}
 use mathlib.Core.Path.{◌≡◌}
 use lib.ListN.{length}
 use Rattle.paper.specs.Columns.{vec, column}
@@ -8,7 +7,4 @@ use Rattle.vector.proofs.WriteLoops.{Upto}
 use Rattle.vector.proofs.Vector.column.Given as goal
 
 abbrev pub invariant-loop-i : goal.invariant-loop-i
-invariant-loop-i l = (length l.initial.a ≡ devices) × Upto (column l.d l.n (vec l.initial.a)) l.initial.a l.a l.i
-
-abbrev pub decreases-loop-i : goal.decreases-loop-i
-decreases-loop-i l = devices - l.i
+invariant-loop-i l = (length l.initial.count-items ≡ devices) × Upto (column l.d l.n (vec l.initial.count-items)) l.initial.count-items l.count-items l.i

@@ -1,8 +1,0 @@
--- Nobody is ahead.
-use mathlib.Core.Path.{ap}
-use Prim.Native.Nat.{ℕ}
-use lib.Dec.{eqb}
-use Rattle.vector.proofs.Vector.covers.Goals as goal
-
-pub returns : goal.returns
-returns c = ap (λ (n : ℕ). eqb n 0) c.ahead.ensures

@@ -2,6 +2,8 @@
 
 #![tactic(auto)]
 
+pub mod either;
+
 ghost use Rattle.std.specs.Prelude.{◌≡◌, true, ◌&&◌, eqb, ◌≤◌, ◌<◌, length};
 ghost use Rattle.paper.specs.Columns.{vec, full, covers};
 ghost use Rattle.paper.specs.Words.{wide, floor_at, row_of, floor_of};

@@ -1,0 +1,35 @@
+// Summaries at the width that a number says, for a walk over rows that calls itself.
+ghost use Rattle.std.specs.Prelude.{◌≡◌, ◌≤◌, length, drop};
+ghost use Rattle.paper.specs.Order.{forest_of};
+ghost use Rattle.paper.specs.Words.{wide};
+ghost use Rattle.paper.specs.Widths;
+ghost use Rattle.summary.specs.Sums.{said, stored, Siblings, mended};
+
+use crate::Summary;
+use vector::row::Narrow;
+use vector::width::Width;
+
+// Of siblings, by their rows alone; nothing where there are none.
+pub fn of_rows(t: &[u32], columns: usize) -> Option<Summary>
+    requires width { Widths.Width columns }
+    requires siblings { Siblings columns t.now }
+    ensures { said result ≡ stored columns (forest_of (wide columns) t.now) }
+{
+    if columns == Narrow::COLUMNS {
+        return Summary::of_rows(t, Width::narrow());
+    }
+    Summary::of_rows(t, Width::wide())
+}
+
+// Puts the summaries of a folder right, by the rows of its children: all that stands after its own row.
+pub fn mend_folder(t: &mut [u32], columns: usize)
+    requires columns_in_bounds { (wide columns ≤ length t.old) × Widths.Width columns }
+    requires siblings { Siblings columns (drop (wide columns) t.old) }
+    ensures { t.new ≡ mended columns (stored columns (forest_of (wide columns) (drop (wide columns) t.old))) t.old }
+{
+    if columns == Narrow::COLUMNS {
+        Summary::mend_folder(t, Width::narrow());
+        return;
+    }
+    Summary::mend_folder(t, Width::wide());
+}

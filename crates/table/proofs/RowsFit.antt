@@ -66,8 +66,8 @@ pub record Cut (w : ℕ) (t : List ℕ) : Type 0 where
   pub rest : length (take (length t - wide w) (drop (wide w) t)) ≡ length t - wide w
 
 -- rows judged with another clock that is the same
-pub beneath : (w : ℕ) {c d : Clock} {f : Raw} {v : Vec} {r b : Bool} → d ≡ c → r ≡ rows_fit w d f v → r ≡ b → rows_fit w c f v ≡ b
-beneath w {f = f} {v = v} e p q = ap (λ k. rows_fit w k f v) (sym e) ∙ sym p ∙ q
+pub beneath : (w : ℕ) (f : Raw) (v : Vec) {c d : Clock} {r b : Bool} → d ≡ c → r ≡ rows_fit w d f v → r ≡ b → rows_fit w c f v ≡ b
+beneath w f v e p q = ap (λ k. rows_fit w k f v) (sym e) ∙ sym p ∙ q
 
 -- one row with all beneath it
 module _ (w : ℕ) (t : List ℕ) (q : OneRow w t) where

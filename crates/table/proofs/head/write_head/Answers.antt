@@ -16,4 +16,4 @@ bounds-t-3 g c = simp length-set (omega (arith, c.blank_out.auto.t, c.requires))
 
 pub returns : goal.returns
 returns g c =
-    head_set g.row.N _ _ _ _ _ (c.blank_out.ensures ∙ ap (λ x. replicate x 0) c.requires) c.sign_of-sign.ensures
+    head_set g.row.N _ _ _ _ _ (c.blank_out.ensures ∙ ap (λ x. replicate x 0) c.requires) c.sign_of.ensures

@@ -1,0 +1,49 @@
+-- A test that fails refutes one fact of a head that fits; past the last test the rest decides.
+use lib.ListN.{take, drop, get_or}
+use Rattle.paper.specs.Check.{blank, head_fits}
+use Rattle.paper.specs.Words.{wide}
+use Rattle.laws.proofs.Tables.{HeadFits, head_facts}
+use Rattle.table.proofs.Heads.{head_rest}
+use Rattle.vector.proofs.Parts.{words_fit, words_small}
+use Rattle.laws.proofs.Bools.{not_so}
+use native.Mathlib.Omega.{arith}
+use Prim.Native.Nat.{◌+◌, ◌-◌, ◌*◌}
+use mathlib.Core.Bool.{false}
+use mathlib.Core.Path.{◌≡◌, sym, ap, ◌∙◌}
+use Rattle.table.proofs.head.head_fits.Goals as goal
+use Rattle.table.proofs.head.head_fits.Given.{Over}
+use Rattle.table.proofs.head.head_fits.Goals.{Start}
+
+bad : (g : Over) (c : Start g) → (HeadFits g.row.N c.args.t.now → ⊥) → false ≡ head_fits g.row.N c.args.t.now
+bad g c h = sym (not_so _ (λ e. h (head_facts g.row.N c.args.t.now e)))
+
+pub returns-then-t-width : goal.returns-then-t-width
+returns-then-t-width g c = let s = (goal.at.returns-then-t-width g c).Start in bad g s (λ f. omega arith)
+
+pub returns-then-device : goal.returns-then-device
+returns-then-device g c = let s = (goal.at.returns-then-device g c).Start in bad g s (λ f. omega arith)
+
+pub returns-then-rows-eq0 : goal.returns-then-rows-eq0
+returns-then-rows-eq0 g c = let s = (goal.at.returns-then-rows-eq0 g c).Start in bad g s (λ f. omega arith)
+
+pub returns-then-rows-gt-MOST_ROWS : goal.returns-then-rows-gt-MOST_ROWS
+returns-then-rows-gt-MOST_ROWS g c = let s = (goal.at.returns-then-rows-gt-MOST_ROWS g c).Start in bad g s (λ f. omega arith)
+
+pub overflow_mul-rows : goal.overflow_mul-rows
+overflow_mul-rows g c = omega (arith, words_fit (get_or c.args.t.now 2 0) (wide g.row.N) (omega (arith, c.if-rows-gt-MOST_ROWS)) (omega (arith, c.args.w.few)))
+
+pub overflow_add-rows : goal.overflow_add-rows
+overflow_add-rows g c = omega (arith, words_small (get_or c.args.t.now 2 0) (wide g.row.N) (omega (arith, c.if-rows-gt-MOST_ROWS)) (omega (arith, c.args.w.few)))
+
+pub returns-then-t-rows : goal.returns-then-t-rows
+returns-then-t-rows g c = let s = (goal.at.returns-then-t-rows g c).Start in bad g s (λ f. c.if-t-rows.true f.long)
+
+pub returns-then-t-sign_of : goal.returns-then-t-sign_of
+returns-then-t-sign_of g c = let s = (goal.at.returns-then-t-sign_of g c).Start in bad g s (λ f. c.if-t-sign_of.true (f.sign ∙ sym c.sign_of.ensures))
+
+pub returns : goal.returns
+returns g c =
+    let b : 4 + 4 * g.row.N ≡ wide g.row.N - 4 = omega arith in
+    c.is_blank.ensures ∙ ap (λ n. blank (take n (drop 4 c.args.t.now))) (sym b)
+    ∙ head_rest g.row.N c.args.t.now (omega (arith, c.if-device)) (omega (arith, c.if-rows-eq0)) (omega (arith, c.if-rows-gt-MOST_ROWS)) c.if-t-rows.false
+    (c.if-t-sign_of.false ∙ c.sign_of.ensures)

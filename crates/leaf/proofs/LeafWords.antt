@@ -16,7 +16,7 @@ use Rattle.laws.proofs.Columns.{part_length}
 use Rattle.vector.specs.Places.{put}
 use Rattle.vector.proofs.Places.{put_back, put_same, length_put}
 use Rattle.summary.specs.Sums.{Sums, sums_row, mended}
-use Rattle.leaf.specs.Leaves.{Rows, taken_from, raised_where, SheetDone, floored, ruled_row, over_rows, over_row}
+use Rattle.leaf.specs.Leaves.{Rows, OverDone, taken_from, raised_where, SheetDone, floored, ruled_row, over_rows, over_row}
 use Rattle.rules.specs.Judged.{judged}
 
 -- what is said at a width is said at one that equals it
@@ -29,8 +29,8 @@ sheet_at a b ua ub s t e h = rw e h
 pub over_at_lem : {v w : ℕ} (a b : Clock) (ua ub : Vec) (s t : List ℕ) {r : Bool} → w ≡ v → r ≡ over_rows v a b ua ub s t → r ≡ over_rows w a b ua ub s t
 over_at_lem a b ua ub s t e h = rw e h
 
-pub folder_at : {v w : ℕ} (a b : Clock) (ua : Vec) (s t : List ℕ) {t' : List ℕ} → w ≡ v → t' ≡ over_row v a b ua s t → t' ≡ over_row w a b ua s t
-folder_at a b ua s t e h = rw e h
+pub over_done_at : {v w : ℕ} (a b : Clock) (ua : Vec) (s t : List ℕ) {t' l l' : List ℕ} → w ≡ v → OverDone v a b ua s t t' l l' → OverDone w a b ua s t t' l l'
+over_done_at a b ua s t {t' = t'} {l = l} {l' = l'} e h = subst (λ k. OverDone k a b ua s t t' l l') (sym e) h
 
 -- words 2 to 7 come back from their loan as those of s
 pub took : (s t e : List ℕ) → floor_at ≤ length s → e ≡ take 6 (drop 2 s) → put_mid 2 6 (set t 0 (get_or s 0 0)) e ≡ taken_from s t

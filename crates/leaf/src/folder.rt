@@ -2,61 +2,55 @@
 ghost use Rattle.std.specs.Prelude.{◌≡◌, ◌*◌, length};
 ghost use Rattle.paper.specs.Columns.{vec};
 ghost use Rattle.paper.specs.Words.{wide};
-ghost use Rattle.paper.specs.Widths.{Width};
 ghost use Rattle.leaf.specs.Leaves.{Rows, OverDone, over_rows, over_row};
 
+use crate::full::full_at;
 use crate::silence::answer_silently;
-use crate::{narrow, wide};
-use paper::Clock;
+use crate::single::raise_floor;
+use summary::Summary;
 use vector::Vector;
-use vector::row::{Narrow, Row, Wide};
+use vector::above::Above;
+use vector::row::Row;
+use vector::width::Width;
 
 // Is the folder passed over, by the summaries in its rows? A's newest is covered by B's full least, and A's folder is level.
-pub fn may_pass_over(
-    s: &[u32],
-    t: &[u32],
-    a: Clock,
-    b: Clock,
-    ua: Vector,
-    ub: Vector,
-    columns: usize,
-) -> bool
-    requires width { Width columns }
-    requires rows { Rows columns s.now t.now a b }
-    ensures { result ≡ over_rows columns a b (vec ua.0) (vec ub.0) s.now t.now }
+pub fn may_pass_over<const N: usize>(s: &[u32], t: &[u32], a: Above, b: Above, w: Width<N>) -> bool
+    requires { Rows N s.now t.now a.clock b.clock }
+    ensures { result ≡ over_rows N a.clock b.clock (vec a.floors.0) (vec b.floors.0) s.now t.now }
 {
-    if columns == Narrow::COLUMNS {
-        return narrow::may_pass_over(s, t, a, b, ua, ub);
+    let newest = Vector::read(s, Row::FLOOR + N, N);
+    let least_b = full_at(t, Row::FLOOR + 2 * N, b, w);
+    if least_b.covers(newest, N) {
+        let least = full_at(s, Row::FLOOR + 2 * N, a, w);
+        let most = full_at(s, Row::FLOOR + 3 * N, a, w);
+        return least.same(most, N);
     }
-    wide::may_pass_over(s, t, a, b, ua, ub)
+    false
 }
 
 // The row of a folder that is passed over: its floor raised, and its summaries put right by those in the row.
-pub fn raise_folder(s: &[u32], t: &mut [u32], a: Clock, b: Clock, ua: Vector, columns: usize)
-    requires width { Width columns }
-    requires rows { Rows columns s.now t.old a b }
-    ensures { t.new ≡ over_row columns a b (vec ua.0) s.now t.old }
+pub fn raise_folder<const N: usize>(s: &[u32], t: &mut [u32], a: Above, b: Above, w: Width<N>)
+    requires { Rows N s.now t.old a.clock b.clock }
+    ensures { t.new ≡ over_row N a.clock b.clock (vec a.floors.0) s.now t.old }
 {
-    if columns == Narrow::COLUMNS {
-        narrow::raise_folder(s, t, a, b, ua);
-        return;
-    }
-    wide::raise_folder(s, t, a, b, ua);
+    let least = full_at(s, Row::FLOOR + 2 * N, a, w);
+    raise_floor(true, t, b.clock, least, w);
+    let rows = Summary::of_folder(t, w);
+    Summary::mend(Some(rows), t, w);
 }
 
 // A folder that is passed over, with the answers for it and for all beneath it.
-pub fn over_row(
+pub fn over_row<const N: usize>(
     s: &[u32],
     t: &mut [u32],
     answers: &mut [u32],
-    a: Clock,
-    b: Clock,
-    ua: Vector,
-    columns: usize,
+    a: Above,
+    b: Above,
+    w: Width<N>,
 )
-    requires { Rows columns s.now t.old a b × (length s.now ≡ length answers.old * wide columns) × Width columns }
-    ensures { OverDone columns a b (vec ua.0) s.now t.old t.new answers.old answers.new }
+    requires { Rows N s.now t.old a.clock b.clock × (length s.now ≡ length answers.old * wide N) }
+    ensures { OverDone N a.clock b.clock (vec a.floors.0) s.now t.old t.new answers.old answers.new }
 {
-    answer_silently(s, answers, Row::FLOOR + 4 * columns);
-    raise_folder(s, t, a, b, ua, columns);
+    answer_silently(s, answers, Row::FLOOR + 4 * N);
+    raise_folder(s, t, a, b, w);
 }

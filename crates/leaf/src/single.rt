@@ -2,13 +2,15 @@
 ghost use Rattle.std.specs.Prelude.{◌≡◌, cond, ◌≤◌, ◌<◌, length};
 ghost use Rattle.paper.specs.Columns.{vec};
 ghost use Rattle.paper.specs.Words.{wide, floor_at};
-ghost use Rattle.paper.specs.Widths.{Width};
 ghost use Rattle.leaf.specs.Leaves.{Rows, SheetDone, taken_from, raised_where};
 
-use crate::{narrow, wide};
+use crate::full::full_at;
 use paper::Clock;
+use rules::{is_joined, is_taken, judge, number};
 use vector::Vector;
-use vector::row::{Narrow, Row, Wide};
+use vector::above::Above;
+use vector::row::Row;
+use vector::width::Width;
 
 // What stands at row s taken to row t, where `yes`.
 pub fn take_row(yes: bool, s: &[u32], t: &mut [u32])
@@ -23,34 +25,29 @@ pub fn take_row(yes: bool, s: &[u32], t: &mut [u32])
 }
 
 // The floor of row t raised by a vector, where `yes`; the clock is that of t's table.
-pub fn raise_floor(yes: bool, t: &mut [u32], clock: Clock, v: Vector, columns: usize)
-    requires width { Width columns }
-    requires columns_in_bounds { (wide columns ≤ length t.old) × (clock.device < columns) }
-    ensures { t.new ≡ raised_where columns yes clock (vec v.0) t.old }
+pub fn raise_floor<const N: usize>(yes: bool, t: &mut [u32], clock: Clock, v: Vector, w: Width<N>)
+    requires { (wide N ≤ length t.old) × (clock.device < N) }
+    ensures { t.new ≡ raised_where N yes clock (vec v.0) t.old }
 {
-    if columns == Narrow::COLUMNS {
-        narrow::raise_floor(yes, t, clock, v);
+    if yes {
+        let floor = Vector::read(t, Row::FLOOR, N);
+        let floor = floor.raised(v, clock);
+        floor.write(t, Row::FLOOR, N);
         return;
     }
-    wide::raise_floor(yes, t, clock, v);
 }
 
 // One sheet: the number of its ruling.
-pub fn pass_sheet(
-    s: &[u32],
-    t: &mut [u32],
-    a: Clock,
-    b: Clock,
-    ua: Vector,
-    ub: Vector,
-    columns: usize,
-) -> u32
-    requires width { Width columns }
-    requires rows { Rows columns s.now t.old a b }
-    ensures { SheetDone columns a b (vec ua.0) (vec ub.0) s.now t.old result t.new }
+pub fn pass_sheet<const N: usize>(s: &[u32], t: &mut [u32], a: Above, b: Above, w: Width<N>) -> u32
+    requires { Rows N s.now t.old a.clock b.clock }
+    ensures { SheetDone N a.clock b.clock (vec a.floors.0) (vec b.floors.0) s.now t.old result t.new }
 {
-    if columns == Narrow::COLUMNS {
-        return narrow::pass_sheet(s, t, a, b, ua, ub);
-    }
-    wide::pass_sheet(s, t, a, b, ua, ub)
+    let ka = full_at(s, Row::FLOOR, a, w);
+    let kb = full_at(t, Row::FLOOR, b, w);
+    let r = judge(s, t, ka, kb);
+    let joined = is_joined(r);
+    let taken = is_taken(r);
+    raise_floor(joined, t, b.clock, ka, w);
+    take_row(taken, s, t);
+    number(r)
 }

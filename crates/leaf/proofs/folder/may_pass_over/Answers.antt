@@ -1,22 +1,12 @@
--- At either width.
-use mathlib.Core.Path.{◌≡◌}
-use Rattle.paper.specs.Widths.{wide_columns}
-use Rattle.laws.proofs.Widths.{width_wide}
-use Rattle.leaf.proofs.LeafWords.{rows_at, over_at_lem}
+-- The newest decides, then the level.
+use Rattle.leaf.proofs.LeafWords.{over_level, over_false}
 use Rattle.leaf.proofs.folder.may_pass_over.Goals as goal
-use Rattle.leaf.proofs.folder.may_pass_over.Goals.{Else-columns-eq-COLUMNS}
 
-sixteen : (c : Else-columns-eq-COLUMNS) → c.args.columns ≡ wide_columns
-sixteen c = width_wide _ c.requires.width c.if-columns-eq-COLUMNS.false
-
-pub may_pass_over-requires : goal.may_pass_over-requires
-may_pass_over-requires c = rows_at c.if-columns-eq-COLUMNS.true c.requires.rows
-
-pub returns-then-columns-eq-COLUMNS : goal.returns-then-columns-eq-COLUMNS
-returns-then-columns-eq-COLUMNS c = over_at_lem _ _ _ _ _ _ c.if-columns-eq-COLUMNS.true c.may_pass_over.ensures
-
-pub may_pass_over-requires-2 : goal.may_pass_over-requires-2
-may_pass_over-requires-2 c = rows_at (sixteen c) c.requires.rows
+pub returns-then-covers : goal.returns-then-covers
+returns-then-covers g c =
+    over_level g.row.N _ _ _ _ _ _ c.read-newest.ensures c.full_at-least_b.ensures c.covers.ensures c.if-covers.true
+    c.full_at-least.ensures c.full_at-most.ensures c.same.ensures
 
 pub returns : goal.returns
-returns c = over_at_lem _ _ _ _ _ _ (sixteen (goal.at.returns c).Else-columns-eq-COLUMNS) c.may_pass_over-2.ensures
+returns g c =
+    over_false g.row.N _ _ _ _ _ _ c.read-newest.ensures c.full_at-least_b.ensures c.covers.ensures c.if-covers.false

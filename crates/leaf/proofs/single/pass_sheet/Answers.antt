@@ -1,22 +1,8 @@
--- At either width.
-use mathlib.Core.Path.{◌≡◌}
-use Rattle.paper.specs.Widths.{wide_columns}
-use Rattle.laws.proofs.Widths.{width_wide}
-use Rattle.leaf.proofs.LeafWords.{rows_at, sheet_at}
+-- The ruling is that of the two sheets, then the floor is raised, then the row taken.
+use Rattle.leaf.proofs.LeafWords.{sheet_passed}
 use Rattle.leaf.proofs.single.pass_sheet.Goals as goal
-use Rattle.leaf.proofs.single.pass_sheet.Goals.{Else-columns-eq-COLUMNS}
-
-sixteen : (c : Else-columns-eq-COLUMNS) → c.args.columns ≡ wide_columns
-sixteen c = width_wide _ c.requires.width c.if-columns-eq-COLUMNS.false
-
-pub pass_sheet-requires : goal.pass_sheet-requires
-pass_sheet-requires c = rows_at c.if-columns-eq-COLUMNS.true c.requires.rows
-
-pub returns-then-columns-eq-COLUMNS : goal.returns-then-columns-eq-COLUMNS
-returns-then-columns-eq-COLUMNS c = sheet_at _ _ _ _ _ _ c.if-columns-eq-COLUMNS.true c.pass_sheet.ensures
-
-pub pass_sheet-requires-2 : goal.pass_sheet-requires-2
-pass_sheet-requires-2 c = rows_at (sixteen (goal.at.pass_sheet-requires-2 c).Else-columns-eq-COLUMNS) c.requires.rows
 
 pub returns : goal.returns
-returns c = sheet_at _ _ _ _ _ _ (sixteen (goal.at.returns c).Else-columns-eq-COLUMNS) c.pass_sheet-2.ensures
+returns g c =
+    sheet_passed g.row.N _ _ _ _ _ _ c.full_at-ka.ensures c.full_at-kb.ensures c.judge-r.ensures c.number.ensures c.is_joined-joined.ensures c.is_taken-taken.ensures
+    c.raise_floor.ensures c.take_row.ensures

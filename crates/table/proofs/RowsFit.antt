@@ -5,7 +5,7 @@ use lib.ListN.{length, take, drop, length-drop}
 use lib.Seq.{length-take-le}
 use mathlib.Core.Path.{◌≡◌, refl, sym, ap, ap₂, ◌∙◌}
 use mathlib.Core.List.{List}
-use mathlib.Core.Bool.{Bool, true, false, ◌&&◌, and-false, and-true, and_assoc}
+use mathlib.Core.Bool.{true, false, ◌&&◌, and-false, and-true, and_assoc}
 use Rattle.paper.specs.declared.Clock.{Clock}
 use Rattle.paper.specs.Columns.{Vec, greatest}
 use Rattle.paper.specs.Tree.{end, sheet, folder, plus}
@@ -64,10 +64,6 @@ pub record Cut (w : ℕ) (t : List ℕ) : Type 0 where
   pub long : wide w ≤ length t
   pub row : length (take (wide w) t) ≡ wide w
   pub rest : length (take (length t - wide w) (drop (wide w) t)) ≡ length t - wide w
-
--- rows judged with another clock that is the same
-pub beneath : (w : ℕ) (f : Raw) (v : Vec) {c d : Clock} {r b : Bool} → d ≡ c → r ≡ rows_fit w d f v → r ≡ b → rows_fit w c f v ≡ b
-beneath w f v e p q = ap (λ k. rows_fit w k f v) (sym e) ∙ sym p ∙ q
 
 -- one row with all beneath it
 module _ (w : ℕ) (t : List ℕ) (q : OneRow w t) where

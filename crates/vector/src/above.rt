@@ -1,6 +1,6 @@
 // What a table knows above some of its rows.
 ghost use Rattle.std.specs.Prelude.{◌≡◌, ◌<◌};
-ghost use Rattle.paper.specs.Columns.{vec, full, greatest};
+ghost use Rattle.paper.specs.Columns.{vec, full};
 ghost use Rattle.paper.specs.Devices.{devices};
 
 use crate::Vector;
@@ -20,16 +20,5 @@ impl Above {
         ensures { vec result.0 ≡ full self.clock (vec self.floors.0) (vec v.0) }
     {
         v.full(self.floors, self.clock)
-    }
-
-    // The same beneath a folder with this floor.
-    pub fn below(self, floor: Vector) -> Above
-        ensures clock { result.clock ≡ self.clock }
-        ensures floors { vec result.floors.0 ≡ greatest (vec self.floors.0) (vec floor.0) }
-    {
-        Above {
-            clock: self.clock,
-            floors: self.floors.greatest(floor),
-        }
     }
 }

@@ -12,7 +12,7 @@ use Rattle.walk.proofs.+pass_children_pass_row.Goals.{pass_children-In-loop-row,
 
 -- CHILDREN
 here_at : (t : ℕ) (c : pass_children-In-loop-row t)
-    → let q = c.args in let l = c.loop-row in Here q.columns q.a q.b (vec q.ua.0) (vec q.ub.0) q.source.now l.target l.answers l.row
+    → let q = c.args in let l = c.loop-row in Here q.columns q.a.clock q.b.clock (vec q.a.floors.0) (vec q.b.floors.0) q.source.now l.target l.answers l.row
 here_at t c = let l = c.loop-row in here _ _ _ _ _ c.requires.parts l.target l.answers l.row l.looked l.invariant c.loop-row-test.true
 
 pub pass_children-loop-row-init : goal.pass_children-loop-row-init
@@ -88,7 +88,7 @@ pass_children-returns t c =
     let l = c.loop-row in turns_all _ _ _ _ _ c.requires.parts l.target l.answers l.row l.looked l.invariant (omega (arith, c.loop-row-test.false))
 
 -- A ROW: it is there
-there : (t : ℕ) (c : pass_row-Start t) → RowAt c.args.columns c.args.a c.args.b c.args.source.now c.args.target.now (length c.args.answers.now)
+there : (t : ℕ) (c : pass_row-Start t) → RowAt c.args.columns c.args.a.clock c.args.b.clock c.args.source.now c.args.target.now (length c.args.answers.now)
 there t c = row_at c.args.columns c.requires.row_parts (width_few c.args.columns c.requires.width)
 
 -- its first answer is written
@@ -114,7 +114,7 @@ pass_row-may_pass_over-requires-clause-rows t c = (there t (goal.at.pass_row-may
 
 pub pass_row-over_row-requires : goal.pass_row-over_row-requires
 pass_row-over_row-requires t c =
-    let h = there t (goal.at.pass_row-over_row-requires t c).Start in (h.rows, h.source, c.requires.width)
+    let h = there t (goal.at.pass_row-over_row-requires t c).Start in record { width = c.requires.width; rows = (h.rows, h.source) }
 
 pub pass_row-returns-then-may_pass_over : goal.pass_row-returns-then-may_pass_over
 pass_row-returns-then-may_pass_over t c p x f =
@@ -122,13 +122,11 @@ pass_row-returns-then-may_pass_over t c p x f =
     over_passed _ _ _ _ _ h.rows.device_a h.rows.device_b c.requires.row_parts.parts.narrow p y.new.t c.args.answers.now y.new.answers x f
     c.if-source-ne-FOLDER.false c.may_pass_over.ensures c.if-may_pass_over.true (size_is _ p f h.source) y.ensures
 
-pub pass_row-floor_of-floor_a-requires-clause-columns_in_bounds :
-    goal.pass_row-floor_of-floor_a-requires-clause-columns_in_bounds
-pass_row-floor_of-floor_a-requires-clause-columns_in_bounds t c = (there t (goal.at.pass_row-floor_of-floor_a-requires-clause-columns_in_bounds t c).Start).rows.source
+pub pass_row-read-floor_a-requires : goal.pass_row-read-floor_a-requires
+pass_row-read-floor_a-requires t c = let h = (there t (goal.at.pass_row-read-floor_a-requires t c).Start).rows in (h.few, omega (arith, h.source))
 
-pub pass_row-floor_of-floor_b-requires-clause-columns_in_bounds :
-    goal.pass_row-floor_of-floor_b-requires-clause-columns_in_bounds
-pass_row-floor_of-floor_b-requires-clause-columns_in_bounds t c = (there t (goal.at.pass_row-floor_of-floor_b-requires-clause-columns_in_bounds t c).Start).rows.target
+pub pass_row-read-floor_b-requires : goal.pass_row-read-floor_b-requires
+pass_row-read-floor_b-requires t c = let h = (there t (goal.at.pass_row-read-floor_b-requires t c).Start).rows in (h.few, omega (arith, h.target))
 
 pub pass_row-bounds-answers-0-2 : goal.pass_row-bounds-answers-0-2
 pass_row-bounds-answers-0-2 t c = (there t (goal.at.pass_row-bounds-answers-0-2 t c).Start).some
@@ -158,29 +156,29 @@ pass_row-pass_children-looked-requires t c =
       (
         c.requires.width,
         below_parts q.columns q.source.now q.target.now q.answers.now 4 c.requires.row_parts c.if-source-ne-FOLDER.false
-            c.floor_of-floor_a.ensures c.floor_of-floor_b.ensures c.greatest-below_a.ensures c.greatest-below_b.ensures,
+            c.read-floor_a.ensures c.read-floor_b.ensures c.greatest-floors_a.ensures c.greatest-floors_b.ensures,
       ),
     )
 
-pub pass_row-mend_first-requires-clause-columns_in_bounds :
-    goal.pass_row-mend_first-requires-clause-columns_in_bounds
-pass_row-mend_first-requires-clause-columns_in_bounds t c =
-    let y = c.pass_children-looked in let h = there t (goal.at.pass_row-mend_first-requires-clause-columns_in_bounds t c).Start in
+pub pass_row-mend_folder-requires-clause-columns_in_bounds :
+    goal.pass_row-mend_folder-requires-clause-columns_in_bounds
+pass_row-mend_folder-requires-clause-columns_in_bounds t c =
+    let y = c.pass_children-looked in let h = there t (goal.at.pass_row-mend_folder-requires-clause-columns_in_bounds t c).Start in
     (tail_room c.args.target.now y.new.target (wide c.args.columns) h.rows.target y.auto.target, c.requires.width)
 
-pub pass_row-mend_first-requires-clause-siblings :
-    goal.pass_row-mend_first-requires-clause-siblings
-pass_row-mend_first-requires-clause-siblings t c =
+pub pass_row-mend_folder-requires-clause-siblings :
+    goal.pass_row-mend_folder-requires-clause-siblings
+pass_row-mend_folder-requires-clause-siblings t c =
     let y = c.pass_children-looked in let p = c.requires.row_parts in
     walked_siblings c.args.columns y.new.target y.new.answers y.result p p.parts.narrow c.if-source-ne-FOLDER.false
-    c.floor_of-floor_a.ensures c.floor_of-floor_b.ensures c.greatest-below_a.ensures c.greatest-below_b.ensures y.ensures
+    c.read-floor_a.ensures c.read-floor_b.ensures c.greatest-floors_a.ensures c.greatest-floors_b.ensures y.ensures
 
 pub pass_row-returns : goal.pass_row-returns
 pass_row-returns t c p x f =
     let h = there t (goal.at.pass_row-returns t c).Start in let y = c.pass_children-looked in
-    walked_passed _ _ _ _ _ h.rows.device_a h.rows.device_b c.requires.row_parts.parts.narrow p y.new.target c.args.answers.now y.new.answers c.mend_first.new.t y.result x f
+    walked_passed _ _ _ _ _ h.rows.device_a h.rows.device_b c.requires.row_parts.parts.narrow p y.new.target c.args.answers.now y.new.answers c.mend_folder.new.t y.result x f
     c.if-source-ne-FOLDER.false c.may_pass_over.ensures c.if-may_pass_over.false h.some
-    c.floor_of-floor_a.ensures c.floor_of-floor_b.ensures c.greatest-below_a.ensures c.greatest-below_b.ensures y.ensures c.mend_first.ensures
+    c.read-floor_a.ensures c.read-floor_b.ensures c.greatest-floors_a.ensures c.greatest-floors_b.ensures y.ensures c.mend_folder.ensures
 
 pub pass_row-overflow_add-result : goal.pass_row-overflow_add-result
 pass_row-overflow_add-result t c =
@@ -189,8 +187,8 @@ pass_row-overflow_add-result t c =
     omega (
       arith,
       passed_few c.args.columns p.parts _ _ (y.result + 1)
-          (walked_passed _ _ _ _ _ h.rows.device_a h.rows.device_b p.parts.narrow p.parts.pair y.new.target c.args.answers.now y.new.answers c.mend_first.new.t y.result p.single p.parts.fit
+          (walked_passed _ _ _ _ _ h.rows.device_a h.rows.device_b p.parts.narrow p.parts.pair y.new.target c.args.answers.now y.new.answers c.mend_folder.new.t y.result p.single p.parts.fit
           c.if-source-ne-FOLDER.false c.may_pass_over.ensures c.if-may_pass_over.false h.some
-          c.floor_of-floor_a.ensures c.floor_of-floor_b.ensures c.greatest-below_a.ensures c.greatest-below_b.ensures y.ensures c.mend_first.ensures),
+          c.read-floor_a.ensures c.read-floor_b.ensures c.greatest-floors_a.ensures c.greatest-floors_b.ensures y.ensures c.mend_folder.ensures),
       c.well_formed.1.1.0.0,
     )

@@ -12,7 +12,7 @@ abbrev pub decreases-pass_children : goal.decreases-pass_children
 decreases-pass_children l = length l.source.now + length l.source.now + 1
 
 abbrev pub invariant-pass_children-loop-row : goal.invariant-pass_children-loop-row
-invariant-pass_children-loop-row l = Turns l.columns l.a l.b (vec l.ua.0) (vec l.ub.0) l.source l.initial.target l.initial.answers l.target l.answers l.row l.looked
+invariant-pass_children-loop-row l = Turns l.columns l.a.clock l.b.clock (vec l.a.floors.0) (vec l.b.floors.0) l.source l.initial.target l.initial.answers l.target l.answers l.row l.looked
 
 abbrev pub decreases-pass_children-loop-row : goal.decreases-pass_children-loop-row
 decreases-pass_children-loop-row l = length l.answers - l.row

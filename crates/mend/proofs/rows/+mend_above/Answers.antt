@@ -14,13 +14,13 @@ mend_above-requires t c =
     let a = c.loop-left.invariant in let p = c.loop-left-test.true in let q = c.if-left-size.true in
     (omega (arith, below_less _ _ _ _ _ a.0 p q, a.2, c.decreases), (below_siblings _ _ _ _ _ a.0 p q, (below_there _ _ _ _ _ a.0 p q, c.requires.columns_in_bounds.1)))
 
-pub mend_row-requires-clause-siblings : goal.mend_row-requires-clause-siblings
-mend_row-requires-clause-siblings t c =
+pub mend_folder-requires-clause-siblings : goal.mend_folder-requires-clause-siblings
+mend_folder-requires-clause-siblings t c =
     (held_siblings _ _ _ _ _ c.loop-left.invariant.0 c.loop-left-test.true c.if-left-size.true _ c.mend_above.ensures c.mend_above.auto.t).1
 
 pub returns-then-left-size : goal.returns-then-left-size
 returns-then-left-size t c =
-    above_under _ _ _ _ _ c.loop-left.invariant.0 c.loop-left-test.true c.if-left-size.true _ c.mend_above.ensures c.mend_above.auto.t _ c.mend_row.ensures
+    above_under _ _ _ _ _ c.loop-left.invariant.0 c.loop-left-test.true c.if-left-size.true _ c.mend_above.ensures c.mend_above.auto.t _ c.mend_folder.ensures
     ∙ ap (λ x. words_of (mended_rows c.args.columns (forest_of (wide c.args.columns) x) c.args.row)) c.loop-left.invariant.1
 
 pub loop-left-preserved : goal.loop-left-preserved

@@ -1,5 +1,5 @@
 -- One row by its children, cut in its own words and those beneath; siblings row by row.
-use Rattle.table.proofs.RowsFit.{Cut, beneath, row_cut, fit_told, under_order, sheet_fit, folder_broken, folder_fit, row_here, row_length, row_one, rows_after, rows_broken, rows_next, rows_none}
+use Rattle.table.proofs.RowsFit.{Cut, row_cut, fit_told, under_order, sheet_fit, folder_broken, folder_fit, row_here, row_length, row_one, rows_after, rows_broken, rows_next, rows_none}
 use Rattle.order.proofs.Siblings.{Here}
 use Rattle.layout.specs.FolderSums.{folder_by}
 use Rattle.paper.specs.Words.{wide}
@@ -19,23 +19,23 @@ one_row_fits-returns-then-t-ne-FOLDER t c = c.sheet_fits.ensures ∙ sheet_fit _
 pub one_row_fits-rows_fit-requires : goal.one_row_fits-rows_fit-requires
 one_row_fits-rows_fit-requires t c =
     let h = cut t (goal.at.one_row_fits-rows_fit-requires t c).Start in
-    (omega (arith, h.rest, c.decreases), (under_order _ _ c.requires.one_row, (omega (arith, ap (λ z. z.device) c.below-below.ensures.clock, c.requires.device_lt_columns.0), c.requires.device_lt_columns.1)))
+    (omega (arith, h.rest, c.decreases), (under_order _ _ c.requires.one_row, c.requires.device_lt_columns))
 
 pub one_row_fits-returns-then-not-rows_fit : goal.one_row_fits-returns-then-not-rows_fit
 one_row_fits-returns-then-not-rows_fit t c =
-    sym (folder_broken _ _ c.requires.one_row _ _ c.if-t-ne-FOLDER.false c.read.ensures c.below-below.ensures.floors (beneath _ _ _ c.below-below.ensures.clock c.rows_fit.ensures c.if-not-rows_fit.true))
+    sym (folder_broken _ _ c.requires.one_row _ _ c.if-t-ne-FOLDER.false c.read.ensures c.greatest.ensures (sym c.rows_fit.ensures ∙ c.if-not-rows_fit.true))
 
 pub one_row_fits-of_rows-sums-requires-clause-siblings :
     goal.one_row_fits-of_rows-sums-requires-clause-siblings
 one_row_fits-of_rows-sums-requires-clause-siblings t c =
     let h = cut t (goal.at.one_row_fits-of_rows-sums-requires-clause-siblings t c).Start in
-    (fit_told _ h.some _ _ _ (under_order _ _ c.requires.one_row) (beneath _ _ _ c.below-below.ensures.clock c.rows_fit.ensures c.if-not-rows_fit.false)).siblings
+    (fit_told _ h.some _ _ _ (under_order _ _ c.requires.one_row) (sym c.rows_fit.ensures ∙ c.if-not-rows_fit.false)).siblings
 
 pub one_row_fits-returns : goal.one_row_fits-returns
 one_row_fits-returns t c =
     let h = cut t (goal.at.one_row_fits-returns t c).Start in
     c.folder_fits.ensures ∙ ap (folder_by c.args.columns c.args.above.clock (take (wide c.args.columns) c.args.t.now)) c.of_rows-sums.ensures
-    ∙ folder_fit _ _ c.requires.one_row _ _ c.if-t-ne-FOLDER.false c.read.ensures c.below-below.ensures.floors h.some (beneath _ _ _ c.below-below.ensures.clock c.rows_fit.ensures c.if-not-rows_fit.false)
+    ∙ folder_fit _ _ c.requires.one_row _ _ c.if-t-ne-FOLDER.false c.read.ensures c.greatest.ensures h.some (sym c.rows_fit.ensures ∙ c.if-not-rows_fit.false)
 
 pub rows_fit-bounds-t-at : goal.rows_fit-bounds-t-at
 rows_fit-bounds-t-at t c = let h = here t (goal.at.rows_fit-bounds-t-at t c).In-loop-at in omega arith

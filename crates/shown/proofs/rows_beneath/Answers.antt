@@ -7,63 +7,64 @@ use Rattle.order.proofs.RowPlaces.{Begins, begins}
 use native.Mathlib.Omega.{arith}
 use Rattle.shown.proofs.Beneath.{FolderAt, folder_at, beneath_cut, beneath_lies}
 use Rattle.shown.proofs.rows_beneath.Goals as goal
+use Rattle.shown.proofs.rows_beneath.Given.{Over}
 use Rattle.shown.proofs.rows_beneath.Goals.{Start}
 
-folder : (c : Start) → FolderAt c.args.columns c.args.table.now c.args.row
-folder c = folder_at _ _ _ c.requires.0
+folder : (g : Over) (c : Start g) → FolderAt g.row.N c.args.table.now c.args.row
+folder g c = folder_at _ _ _ c.requires.0
 
-at : (c : Start) → Begins c.args.columns c.args.table.now c.args.row
-at c = begins _ _ _ c.requires.1 (folder c).check (folder c).there
+at : (g : Over) (c : Start g) → Begins g.row.N c.args.table.now c.args.row
+at g c = begins _ _ _ c.requires.1 (folder g c).check (folder g c).there
 
 -- its row and its rows beneath are there, and few
-room : (c : Start)
-    → let n = wide c.args.columns in
+room : (g : Over) (c : Start g)
+    → let n = wide g.row.N in
     let from = (c.args.row + 1) * n in
     let words = get_or c.args.table.now (from + 1) 0 * n in
     (length c.args.table.now ≤ most_words) × (from + n ≤ length c.args.table.now) × (from + words ≤ length c.args.table.now) × (n ≤ words)
-room c = ((at c).few, (at c).room, (folder c).room, (folder c).own)
+room g c = ((at g c).few, (at g c).room, (folder g c).room, (folder g c).own)
 
 pub overflow_mul-width : goal.overflow_mul-width
-overflow_mul-width c = let h = c.requires.1 in omega arith
+overflow_mul-width g c = let h = c.requires.1 in omega arith
 
 pub overflow_add-width : goal.overflow_add-width
-overflow_add-width c = let h = c.requires.1 in omega arith
+overflow_add-width g c = let h = c.requires.1 in omega arith
 
 pub overflow_add-at : goal.overflow_add-at
-overflow_add-at c = omega (arith, (at c).low)
+overflow_add-at g c = omega (arith, (at g c).low)
 
 pub overflow_mul-at : goal.overflow_mul-at
-overflow_mul-at c = omega (arith, room c)
+overflow_mul-at g c = omega (arith, room g c)
 
 pub overflow_add-size : goal.overflow_add-size
-overflow_add-size c = omega (arith, room c)
+overflow_add-size g c = omega (arith, room g c)
 
 pub offset_bounds-table-at : goal.offset_bounds-table-at
-offset_bounds-table-at c = omega (arith, room c)
+offset_bounds-table-at g c = omega (arith, room g c)
 
 pub bounds-table-at : goal.bounds-table-at
-bounds-table-at c = omega (arith, room (goal.at.bounds-table-at c).Start)
+bounds-table-at g c = omega (arith, room g (goal.at.bounds-table-at g c).Start)
 
 pub overflow_add-start : goal.overflow_add-start
-overflow_add-start c = omega (arith, room (goal.at.overflow_add-start c).Start)
+overflow_add-start g c = omega (arith, room g (goal.at.overflow_add-start g c).Start)
 
 pub overflow_mul-end : goal.overflow_mul-end
-overflow_mul-end c = omega (arith, room (goal.at.overflow_mul-end c).Start)
+overflow_mul-end g c = omega (arith, room g (goal.at.overflow_mul-end g c).Start)
 
 pub overflow_add-end : goal.overflow_add-end
-overflow_add-end c = omega (arith, room (goal.at.overflow_add-end c).Start)
+overflow_add-end g c = omega (arith, room g (goal.at.overflow_add-end g c).Start)
 
 pub offset_bounds-table-start : goal.offset_bounds-table-start
-offset_bounds-table-start c = omega (arith, room (goal.at.offset_bounds-table-start c).Start)
+offset_bounds-table-start g c = omega (arith, room g (goal.at.offset_bounds-table-start g c).Start)
 
 pub slice_bounds-result-count : goal.slice_bounds-result-count
-slice_bounds-result-count c = omega (arith, room (goal.at.slice_bounds-result-count c).Start)
+slice_bounds-result-count g c = omega (arith, room g (goal.at.slice_bounds-result-count g c).Start)
 
 pub slice_bounds-result-start : goal.slice_bounds-result-start
-slice_bounds-result-start c = omega (arith, room (goal.at.slice_bounds-result-start c).Start)
+slice_bounds-result-start g c = omega (arith, room g (goal.at.slice_bounds-result-start g c).Start)
 
 pub slice_bounds-result-end : goal.slice_bounds-result-end
-slice_bounds-result-end c = omega (arith, room (goal.at.slice_bounds-result-end c).Start)
+slice_bounds-result-end g c = omega (arith, room g (goal.at.slice_bounds-result-end g c).Start)
 
 pub returns : goal.returns
-returns c = (beneath_cut _ _ _ c.requires.0, beneath_lies _ _ _ c.requires.0 c.args.table.ref_ptr)
+returns g c = (beneath_cut _ _ _ c.requires.0, beneath_lies _ _ _ c.requires.0 c.args.table.ref_ptr)

@@ -10,6 +10,7 @@ use vector::row::Row;
 use vector::width::Width;
 
 // The rows beneath a folder that nothing refuses: from the next row on, as many as its size says, less its own.
+#[tactic(auto, using(crate::proofs::Beneath::beneath_begins, crate::proofs::Beneath::folder_at))]
 pub fn rows_beneath<const N: usize>(table: &[u32], row: usize, w: Width<N>) -> &[u32]
     requires { beneath_refused N table.now row ≡ 0 }
     ensures { (result.now ≡ beneath_part N table.now row)

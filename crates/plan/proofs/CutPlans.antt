@@ -8,7 +8,7 @@ use native.Mathlib.Nat.{suc-mul, zero-mul, add-mul, mul-le-mul_right}
 use lib.Dec.{eqb, leb, ltb}
 use borrow.Author.Tests.{lt-ltb, le-leb, leb-true, leb-false, lt-leb, eq-eqb, ne_eqb}
 use lib.ListN.{length, get_or, take, drop, set, replicate, length-append, length-drop}
-use lib.Seq.{take-append-add, drop-append-add, drop-drop, get_or-drop, take_all}
+use lib.Seq.{take-append-add, drop-append-add, take_all}
 use borrow.Rule.Slice.PartMut.{put_mid, same_len_mid, mid_len}
 use Rattle.paper.specs.Order.{kind_word, size_word, row_fits, ordered}
 use Rattle.paper.specs.Words.{wide, head_words}
@@ -22,6 +22,10 @@ use Rattle.order.proofs.Descents.{not_below}
 use Rattle.vector.proofs.Parts.{words_small}
 use Rattle.table.proofs.RowsWritten.{head_length, head_words_lem, row_words}
 use Rattle.plan.specs.PlannedRows.{planned_row, plan_fits, planned_table}
+
+-- what is left of a part, as the code cuts it
+pub rest_of : (k : ℕ) (p : List ℕ) → take (length p - k) (drop k p) ≡ drop k p
+rest_of k p = take_all (length p - k) (drop k p) (omega (arith, length-drop k p))
 
 -- the size of the row that a number gives
 abbrev plan_size : ℕ → ℕ
@@ -126,33 +130,26 @@ module _ (w : ℕ) where
   plan_none lv [] h = ap (ordered n lv) planned_none ∙ nil_order n 0 lv
   plan_none lv (k ∷ p) h = absurd (omega arith)
 
-  -- the rows from place `at` on: of the number there, of what is beneath it, and of what is after
-  module _ (lv : ℕ) (p : List ℕ) (at k : ℕ) (h : at < length p) (e : k ≡ plan_size (get_or p at 0)) where
+  -- a plan by its first number: what is beneath that row, and what is after
+  module _ (lv : ℕ) (p : List ℕ) (k : ℕ) (h : 0 < length p) (e : k ≡ plan_size (get_or p 0 0)) where
     abbrev under : List ℕ
-    under = take (at + k - (at + 1)) (drop (at + 1) p)
+    under = take (k - 1) (drop 1 p)
 
-    plan_step : ordered n lv (planned w (drop at p)) ≡ ((ltb 0 lv && leb k (length p - at)) && (ordered n (lv - 1) (planned w under) && ordered n lv (planned w (drop (at + k) p))))
-    plan_step =
-        let q = drop at p in
-        let i : at + 0 ≡ at = omega arith in
-        let s : plan_size (get_or q 0 0) ≡ k = omega (arith, get_or-drop at p 0 0 ∙ ap (λ x. get_or p x 0) i, e) in
-        let z : k - 1 ≡ at + k - (at + 1) = omega arith in
-        plan_first lv q (omega (arith, length-drop at p))
-        ∙ ap₂ (λ x y. (ltb 0 lv && leb x y) && (ordered n (lv - 1) (planned w (take (x - 1) (drop 1 q))) && ordered n lv (planned w (drop x q)))) s (length-drop at p)
-        ∙ ap₂ (λ x y. (ltb 0 lv && leb k (length p - at)) && (ordered n (lv - 1) (planned w x) && ordered n lv (planned w y))) (ap₂ take z (drop-drop 1 at p)) (drop-drop k at p)
+    plan_step : ordered n lv (planned w p) ≡ ((ltb 0 lv && leb k (length p)) && (ordered n (lv - 1) (planned w under) && ordered n lv (planned w (drop k p))))
+    plan_step = rw e (plan_first lv p h)
 
-    pub no_level : lv ≡ 0 → ordered n lv (planned w (drop at p)) ≡ false
-    no_level z = plan_step ∙ ap (λ x. (ltb 0 x && leb k (length p - at)) && (ordered n (lv - 1) (planned w under) && ordered n lv (planned w (drop (at + k) p)))) z
+    pub no_level : lv ≡ 0 → ordered n lv (planned w p) ≡ false
+    no_level z = plan_step ∙ ap (λ x. (ltb 0 x && leb k (length p)) && (ordered n (lv - 1) (planned w under) && ordered n lv (planned w (drop k p)))) z
 
     module _ (l : 0 < lv) where
-      pub no_room : length p - at < k → ordered n lv (planned w (drop at p)) ≡ false
-      no_room g = plan_step ∙ rw (lt-ltb 0 lv l, lt-leb k (length p - at) g)
+      pub no_room : length p < k → ordered n lv (planned w p) ≡ false
+      no_room g = plan_step ∙ rw (lt-ltb 0 lv l, lt-leb k (length p) g)
 
-      pub under_broken : k ≤ length p - at → ordered n (lv - 1) (planned w under) ≡ false → ordered n lv (planned w (drop at p)) ≡ false
-      under_broken g b = plan_step ∙ rw (lt-ltb 0 lv l, le-leb k (length p - at) g, b)
+      pub under_broken : k ≤ length p → ordered n (lv - 1) (planned w under) ≡ false → ordered n lv (planned w p) ≡ false
+      under_broken g b = plan_step ∙ rw (lt-ltb 0 lv l, le-leb k (length p) g, b)
 
-      pub plan_next : k ≤ length p - at → ordered n (lv - 1) (planned w under) ≡ true → ordered n lv (planned w (drop at p)) ≡ ordered n lv (planned w (drop (at + k) p))
-      plan_next g b = plan_step ∙ rw (lt-ltb 0 lv l, le-leb k (length p - at) g, b)
+      pub plan_next : k ≤ length p → ordered n (lv - 1) (planned w under) ≡ true → ordered n lv (planned w p) ≡ ordered n lv (planned w (drop k p))
+      plan_next g b = plan_step ∙ rw (lt-ltb 0 lv l, le-leb k (length p) g, b)
 
   -- THE ROOT is a folder of all rows
   root_plan : (p : List ℕ) → 0 < length p → get_or p 0 0 ≡ length p → order_fits w (length p) (planned w p) ≡ ordered n 16 (planned w p)
@@ -196,14 +193,14 @@ module _ (w : ℕ) where
 blank_row : (w : ℕ) → replicate {A = ℕ} (wide w) 0 ≡ 0 ∷ 0 ∷ replicate (6 + 4 * w) 0
 blank_row w = let e : wide w ≡ suc (suc (6 + 4 * w)) = omega arith in ap (λ x. replicate {A = ℕ} x 0) e
 
-pub sheet_row : (w k : ℕ) (l : List ℕ) → l ≡ replicate (wide w) 0 → k ≡ 0 → set l 1 1 ≡ planned_row w k
+pub sheet_row : (w k m : ℕ) (l : List ℕ) → l ≡ replicate m 0 → m ≡ wide w → k ≡ 0 → set l 1 1 ≡ planned_row w k
 unfolding planned_row
-sheet_row w k l e z = ap (λ (x : List ℕ). set x 1 1) (e ∙ blank_row w) ∙ ap (planned_row w) (sym z)
+sheet_row w k m l e h z = ap (λ (x : List ℕ). set x 1 1) (e ∙ ap (λ (x : ℕ). replicate x 0) h ∙ blank_row w) ∙ ap (planned_row w) (sym z)
 
-pub folder_row_lem : (w k : ℕ) (l : List ℕ) → l ≡ replicate (wide w) 0 → 0 < k → set (set l 0 3) 1 k ≡ planned_row w k
+pub folder_row_lem : (w k m : ℕ) (l : List ℕ) → l ≡ replicate m 0 → m ≡ wide w → 0 < k → set (set l 0 3) 1 k ≡ planned_row w k
 unfolding planned_row
-folder_row_lem w zero l e z = absurd (omega arith)
-folder_row_lem w (suc k) l e z = ap (λ (x : List ℕ). set (set x 0 3) 1 (suc k)) (e ∙ blank_row w)
+folder_row_lem w zero m l e h z = absurd (omega arith)
+folder_row_lem w (suc k) m l e h z = ap (λ (x : List ℕ). set (set x 0 3) 1 (suc k)) (e ∙ ap (λ (x : ℕ). replicate x 0) h ∙ blank_row w)
 
 -- IN THE LOOP: the head and the first rows are written
 abbrev head : ℕ → ℕ → List ℕ → List ℕ
@@ -255,3 +252,10 @@ module _ (w device : ℕ) (p t : List ℕ) where
     upto_all h =
         sym (take_all ((row + 1) * wide w) t (omega (arith, u.room, add-mul row 1 (wide w), mul-le-mul_right {m = length p} {n = row} (wide w) h))) ∙ u.done
         ∙ ap (λ l. head w device p ++ planned w l) (take_all row p h)
+
+-- for the loop over a part, for a whole plan, and for the loop over the rows
+pub ruleset cut_plans = (plan_none, no_level, no_room, under_broken, plan_next)
+
+pub ruleset root_plans = (no_rows, too_many, no_root, root_order)
+
+pub ruleset rows_upto = (upto_none, room_here, cut_long, upto_more, upto_all)

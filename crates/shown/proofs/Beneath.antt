@@ -15,6 +15,7 @@ use Rattle.paper.specs.Calls.{Answered, beneath_refused, beneath_part, beneath_o
 use Rattle.laws.proofs.Refusals.{first_both, when_none, unless_none, unless_some}
 use Rattle.laws.proofs.Forests.{subtree_fits}
 use Rattle.laws.proofs.Tables.{check_facts, checked_size}
+use Rattle.order.proofs.RowPlaces.{Begins, begins}
 use Rattle.two.proofs.Sizes.{size_word_lem}
 use Rattle.paper.specs.Shown.{word_at, beneath_from}
 
@@ -72,6 +73,10 @@ module _ (w : ℕ) (t : List ℕ) (row : ℕ) where
             let y : size (table_of w t).tree * wide w ≡ get_or t 2 0 * wide w = ap (λ x. x * wide w) n in
             omega (arith, add-mul row 1 (wide w), m, z, y, c.head.long);
       }
+
+  -- its row is there
+  pub beneath_begins : w ≤ 16 → beneath_refused w t row ≡ 0 → Begins w t row
+  beneath_begins l e = let f = folder_at e in begins w t row l f.check f.there
 
   -- the part, as the code cuts it
   pub beneath_cut : beneath_refused w t row ≡ 0

@@ -12,8 +12,9 @@ use Rattle.paper.specs.Order.{kind_word, Raw, forest_of}
 use Rattle.paper.specs.Words.{wide, sheet_of, floor_of, table_of}
 use Rattle.paper.specs.Calls.{row_at}
 use Rattle.laws.proofs.Bools.{and_both}
-use Rattle.laws.proofs.FormedRows.{SheetRow, FolderRow, Formed, ordered_formed}
-use Rattle.laws.proofs.Tables.{Checked}
+use Rattle.laws.proofs.FormedRows.{SheetRow, FolderRow, Formed, ordered_formed, cancel}
+use Rattle.paper.specs.Check.{check_of}
+use Rattle.laws.proofs.Tables.{check_facts}
 use Rattle.two.specs.PlanNumber.{plan_number}
 use Rattle.laws.proofs.Bools.{not_so}
 use Rattle.two.proofs.Listed.{listed, length_listed, word_at, rows_on, rows_next, rows_end, rows_count, rows_all}
@@ -100,17 +101,26 @@ module _ (w : ℕ) (s t : List ℕ) where
   abbrev pub same_plan_on : ℕ → Bool
   same_plan_on i = same_plan (rows_on w s i) (rows_on w t i)
 
-  pub shaped_all : Checked w s → Checked w t → shaped (table_of w s).tree (table_of w t).tree ≡ same_plan_on 0
+  pub shaped_all : check_of w s ≡ 0 → check_of w t ≡ 0 → shaped (table_of w s).tree (table_of w t).tree ≡ same_plan_on 0
   unfolding table_of
-  shaped_all a b =
+  shaped_all d e =
+      let a = check_facts w s d in
+      let b = check_facts w t e in
       mapped_shaped (sheet_of w) (floor_of w) (forest_of (wide w) (drop (wide w) s)) (forest_of (wide w) (drop (wide w) t))
       ∙ shaped_plan (wide w) 16 16 (forest_of (wide w) (drop (wide w) s)) (forest_of (wide w) (drop (wide w) t))
       (ordered_formed (wide w) (omega arith) 16 (drop (wide w) s) a.order) (ordered_formed (wide w) (omega arith) 16 (drop (wide w) t) b.order)
       ∙ ap₂ same_plan (rows_all w s a) (rows_all w t b)
 
   -- as many rows in one as in the other
-  pub same_rows : Checked w s → Checked w t → shaped (table_of w s).tree (table_of w t).tree ≡ true → get_or s 2 0 ≡ get_or t 2 0
+  pub same_rows : check_of w s ≡ 0 → check_of w t ≡ 0 → shaped (table_of w s).tree (table_of w t).tree ≡ true → get_or s 2 0 ≡ get_or t 2 0
   same_rows a b e = omega (arith, same_length (rows_on w s 0) (rows_on w t 0) (sym (shaped_all a b) ∙ e), rows_count w s 0, rows_count w t 0)
+
+  -- as many rows exactly where there are as many words
+  pub rows_same : check_of w s ≡ 0 → check_of w t ≡ 0 → length s ≡ length t → get_or s 2 0 ≡ get_or t 2 0
+  rows_same d e l = cancel (wide w) (omega arith) (get_or s 2 0) (get_or t 2 0) (omega (arith, (check_facts w s d).head.long, (check_facts w t e).head.long, l))
+
+  pub not_as_long : check_of w s ≡ 0 → check_of w t ≡ 0 → (length s ≡ length t → ⊥) → shaped (table_of w s).tree (table_of w t).tree ≡ false
+  not_as_long d e h = not_so _ (λ y. h (omega (arith, (check_facts w s d).head.long, (check_facts w t e).head.long, ap (λ k. k * wide w) (same_rows d e y))))
 
   module _ (i : ℕ) (h : i < get_or s 2 0) (k : i < get_or t 2 0) where
     pub same_next : plan_number (row_at w s i) ≡ plan_number (row_at w t i) → same_plan_on i ≡ same_plan_on (i + 1)
@@ -124,3 +134,6 @@ module _ (w : ℕ) (s t : List ℕ) where
   pub same_end : (i : ℕ) → get_or s 2 0 ≤ i → get_or t 2 0 ≤ i → same_plan_on i ≡ true
   unfolding same_plan
   same_end i h k = ap₂ same_plan (rows_end w s i h) (rows_end w t i k)
+
+-- for the loop over the rows
+pub ruleset same_plans = (rows_same, not_as_long, shaped_all, same_next, same_not, same_end)

@@ -50,7 +50,7 @@ paired w s t row e =
     let p = one.0 in
     let q = tens_none (check_of w t) two.0 in
     let a = two_accepted w s t row e in
-    let rows = same_rows w s t (check_facts w s p) (check_facts w t q) a.shaped in
+    let rows = same_rows w s t p q a.shaped in
     let there : row < get_or t 2 0 = omega (arith, a.there, checked_size w t (check_facts w t q)) in
     record { source = p; target = q; shaped = a.shaped; in_source = omega arith; in_target = there }
 

@@ -4,39 +4,39 @@ ghost use Rattle.paper.specs.Tree.{shaped};
 ghost use Rattle.paper.specs.Words.{wide, table_of};
 ghost use Rattle.paper.specs.Check.{check_of};
 ghost use Rattle.paper.specs.Calls.{row_at};
-ghost use Rattle.paper.specs.Devices.{devices};
 ghost use Rattle.two.specs.PlanNumber.{plan_number};
 
 use vector::head::Head;
 use vector::row::Row;
+use vector::width::Width;
 
 // A row's number in a plan: 0 for a sheet, its size for a folder.
-fn plan_number(t: &[u32], row: usize, columns: usize) -> u32
-    requires { ((row + 2) * wide columns ≤ length t.now) × (columns ≤ devices) }
-    ensures { result ≡ plan_number (row_at columns t.now row) }
+#[tactic(auto, using(crate::proofs::Shaped::sheet_at, crate::proofs::Shaped::folder_at))]
+fn plan_number<const N: usize>(t: &[u32], row: usize, w: Width<N>) -> u32
+    requires { (row + 2) * wide N ≤ length t.now }
+    ensures { result ≡ plan_number (row_at N t.now row) }
 {
-    let at = (row + 1) * (Row::FLOOR + 4 * columns);
-    if t[at + Row::KIND] != Row::FOLDER {
-        return 0;
+    let at = (row + 1) * (Row::FLOOR + 4 * N);
+    if t[at + Row::KIND] == Row::FOLDER {
+        t[at + Row::SIZE]
+    } else {
+        0
     }
-    t[at + Row::SIZE]
 }
 
 // Whether sizes and folder places of two tables are the same: whether they follow one plan.
-pub fn same_shape(source: &[u32], target: &[u32], columns: usize) -> bool
-    requires { (check_of columns source.now ≡ 0) × (check_of columns target.now ≡ 0) × (columns ≤ devices) }
-    ensures { result ≡ shaped (table_of columns source.now).tree (table_of columns target.now).tree }
+#[tactic(auto, using(order::proofs::RowPlaces::begins, crate::proofs::TwoTables::table_long, crate::proofs::Shaped::same_plans))]
+pub fn same_shape<const N: usize>(source: &[u32], target: &[u32], w: Width<N>) -> bool
+    requires { (check_of N source.now ≡ 0) × (check_of N target.now ≡ 0) }
+    ensures { result ≡ shaped (table_of N source.now).tree (table_of N target.now).tree }
 {
-    let rows = source[Head::ROWS] as usize;
     if source.len() != target.len() {
         return false;
     }
-    let mut row = 0;
-    while row < rows {
-        if plan_number(source, row, columns) != plan_number(target, row, columns) {
+    for row in 0..source[Head::ROWS] as usize {
+        if plan_number(source, row, w) != plan_number(target, row, w) {
             return false;
         }
-        row += 1;
     }
     true
 }

@@ -1,11 +1,6 @@
 -- The head, and then row by row: up to `row` the rows are written.
 use Rattle.plan.proofs.CutPlans.{Upto}
-use Prim.Native.Nat.{◌-◌}
-use lib.ListN.{length}
 use Rattle.plan.proofs.write_table.Given as goal
 
 abbrev pub invariant-loop-row : goal.invariant-loop-row
-invariant-loop-row l = Upto l.columns l.device l.p l.t l.row
-
-abbrev pub decreases-loop-row : goal.decreases-loop-row
-decreases-loop-row l = length l.p - l.row
+invariant-loop-row g l = Upto g.row.N l.device l.p l.t l.row

@@ -6,7 +6,7 @@ ghost use Rattle.leaf.specs.Leaves.{Rows, SheetDone, taken_from, raised_where};
 
 use crate::full::full_at;
 use paper::Clock;
-use rules::{is_joined, is_taken, judge, number};
+use rules::judge;
 use vector::Vector;
 use vector::above::Above;
 use vector::row::Row;
@@ -45,9 +45,9 @@ pub fn pass_sheet<const N: usize>(s: &[u32], t: &mut [u32], a: Above, b: Above, 
     let ka = full_at(s, Row::FLOOR, a, w);
     let kb = full_at(t, Row::FLOOR, b, w);
     let r = judge(s, t, ka, kb);
-    let joined = is_joined(r);
-    let taken = is_taken(r);
+    let joined = r.is_joined();
+    let taken = r.is_taken();
     raise_floor(joined, t, b.clock, ka, w);
     take_row(taken, s, t);
-    number(r)
+    u32::from(r)
 }

@@ -25,7 +25,7 @@ pub fn sheet_fits(r: &[u32], clock: Clock, u: Vector) -> bool
     if !is_own_zero(r, clock, Narrow::COLUMNS) {
         return false;
     }
-    if !is_blank(&r[Narrow::NEWEST..Narrow::WIDTH]) {
+    if !is_blank(&r[Row::FLOOR + 8..Narrow::WIDTH]) {
         return false;
     }
     is_known(r, clock, u, Narrow::COLUMNS)

@@ -25,7 +25,7 @@ pub fn sheet_fits(r: &[u32], clock: Clock, u: Vector) -> bool
     if !is_own_zero(r, clock, Wide::COLUMNS) {
         return false;
     }
-    if !is_blank(&r[Wide::NEWEST..Wide::WIDTH]) {
+    if !is_blank(&r[Row::FLOOR + 16..Wide::WIDTH]) {
         return false;
     }
     is_known(r, clock, u, Wide::COLUMNS)

@@ -67,11 +67,11 @@ pub fn may_pass_over(s: &[u32], t: &[u32], a: Clock, b: Clock, ua: Vector, ub: V
     requires { Rows narrow_columns s.now t.now a b }
     ensures { result ≡ over_rows narrow_columns a b (vec ua.0) (vec ub.0) s.now t.now }
 {
-    let newest = Vector::read(s, Narrow::NEWEST, Narrow::COLUMNS);
-    let least_b = full_at(t, Narrow::LEAST, ub, b, Narrow::COLUMNS);
+    let newest = Vector::read(s, Row::FLOOR + 8, Narrow::COLUMNS);
+    let least_b = full_at(t, Row::FLOOR + 16, ub, b, Narrow::COLUMNS);
     if least_b.covers(newest, Narrow::COLUMNS) {
-        let least = full_at(s, Narrow::LEAST, ua, a, Narrow::COLUMNS);
-        let most = full_at(s, Narrow::MOST, ua, a, Narrow::COLUMNS);
+        let least = full_at(s, Row::FLOOR + 16, ua, a, Narrow::COLUMNS);
+        let most = full_at(s, Row::FLOOR + 24, ua, a, Narrow::COLUMNS);
         return least.same(most, Narrow::COLUMNS);
     }
     false
@@ -82,7 +82,7 @@ pub fn raise_folder(s: &[u32], t: &mut [u32], a: Clock, b: Clock, ua: Vector)
     requires { Rows narrow_columns s.now t.old a b }
     ensures { t.new ≡ over_row narrow_columns a b (vec ua.0) s.now t.old }
 {
-    let least = full_at(s, Narrow::LEAST, ua, a, Narrow::COLUMNS);
+    let least = full_at(s, Row::FLOOR + 16, ua, a, Narrow::COLUMNS);
     raise_floor(true, t, b, least);
     let rows = Summary::of_folder(t, Narrow::COLUMNS);
     narrow::mend(rows, t);

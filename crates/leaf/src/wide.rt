@@ -67,11 +67,11 @@ pub fn may_pass_over(s: &[u32], t: &[u32], a: Clock, b: Clock, ua: Vector, ub: V
     requires { Rows wide_columns s.now t.now a b }
     ensures { result ≡ over_rows wide_columns a b (vec ua.0) (vec ub.0) s.now t.now }
 {
-    let newest = Vector::read(s, Wide::NEWEST, Wide::COLUMNS);
-    let least_b = full_at(t, Wide::LEAST, ub, b, Wide::COLUMNS);
+    let newest = Vector::read(s, Row::FLOOR + 16, Wide::COLUMNS);
+    let least_b = full_at(t, Row::FLOOR + 32, ub, b, Wide::COLUMNS);
     if least_b.covers(newest, Wide::COLUMNS) {
-        let least = full_at(s, Wide::LEAST, ua, a, Wide::COLUMNS);
-        let most = full_at(s, Wide::MOST, ua, a, Wide::COLUMNS);
+        let least = full_at(s, Row::FLOOR + 32, ua, a, Wide::COLUMNS);
+        let most = full_at(s, Row::FLOOR + 48, ua, a, Wide::COLUMNS);
         return least.same(most, Wide::COLUMNS);
     }
     false
@@ -82,7 +82,7 @@ pub fn raise_folder(s: &[u32], t: &mut [u32], a: Clock, b: Clock, ua: Vector)
     requires { Rows wide_columns s.now t.old a b }
     ensures { t.new ≡ over_row wide_columns a b (vec ua.0) s.now t.old }
 {
-    let least = full_at(s, Wide::LEAST, ua, a, Wide::COLUMNS);
+    let least = full_at(s, Row::FLOOR + 32, ua, a, Wide::COLUMNS);
     raise_floor(true, t, b, least);
     let rows = Summary::of_folder(t, Wide::COLUMNS);
     wide::mend(rows, t);

@@ -21,15 +21,15 @@ pub fn of_rows(t: &[u32]) -> Summary
         return Summary::none();
     }
     let mut newest = [0u32; Vector::DEVICES];
-    let mut least = Vector::read(t, place(t[Row::KIND], Narrow::LEAST), Narrow::COLUMNS);
+    let mut least = Vector::read(t, place(t[Row::KIND], Row::FLOOR + 16), Narrow::COLUMNS);
     let mut most = Vector::zeros();
     let mut at = 0;
     while at < t.len() {
         let row = &t[at..at + Narrow::WIDTH];
         let kind = row[Row::KIND];
         raise_newest(&mut newest, row);
-        least = least.smallest(Vector::read(row, place(kind, Narrow::LEAST), Narrow::COLUMNS));
-        most = most.greatest(Vector::read(row, place(kind, Narrow::MOST), Narrow::COLUMNS));
+        least = least.smallest(Vector::read(row, place(kind, Row::FLOOR + 16), Narrow::COLUMNS));
+        most = most.greatest(Vector::read(row, place(kind, Row::FLOOR + 24), Narrow::COLUMNS));
         at += row[Row::SIZE] as usize * Narrow::WIDTH;
     }
     Summary {
@@ -50,9 +50,9 @@ pub fn mend(children: Summary, row: &mut [u32])
     let newest = s.newest;
     let least = s.least;
     let most = s.most;
-    newest.write(row, Narrow::NEWEST, Narrow::COLUMNS);
-    least.write(row, Narrow::LEAST, Narrow::COLUMNS);
-    most.write(row, Narrow::MOST, Narrow::COLUMNS);
+    newest.write(row, Row::FLOOR + 8, Narrow::COLUMNS);
+    least.write(row, Row::FLOOR + 16, Narrow::COLUMNS);
+    most.write(row, Row::FLOOR + 24, Narrow::COLUMNS);
 }
 
 // Raises the newest by a row: by a folder's newest, or by a sheet's stamp if it has one.
@@ -63,7 +63,7 @@ fn raise_newest(newest: &mut [u32], row: &[u32])
     let kind = row[Row::KIND];
     if kind == Row::FOLDER {
         let v = Vector::read(newest, 0, Vector::DEVICES);
-        let v = v.greatest(Vector::read(row, Narrow::NEWEST, Narrow::COLUMNS));
+        let v = v.greatest(Vector::read(row, Row::FLOOR + 8, Narrow::COLUMNS));
         v.write(newest, 0, Vector::DEVICES);
         return;
     }

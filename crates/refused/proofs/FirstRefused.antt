@@ -15,7 +15,7 @@ use Rattle.paper.specs.Refusals.{fault_number, refusal_number, first, when, tens
 use Rattle.paper.specs.Words.{table_of}
 use Rattle.paper.specs.Check.{check_of}
 use Rattle.paper.specs.Calls.{unlike, two_refused}
-use Rattle.laws.proofs.Refusals.{first_here, first_next, first_one, first_none, tens_passed, unless_some, when_true, when_false}
+use Rattle.laws.proofs.Refusals.{first_here, first_next, first_one, first_none, tens_passed, tens_none, unless_some, unless_none, when_true, when_false}
 
 -- no refusal has the number 0
 fault_some : (f : Fault) → fault_number f ≡ 0 → ⊥
@@ -49,8 +49,11 @@ refused_here r n rest e = e ∙ sym (first_here n rest (λ z. refusal_some r (e 
 pub ruleset refusals = (refused_here, first_next, first_one, first_none, when_true, when_false)
 
 -- the outcome of a call that is refused
-pub refused_unless : {A : Type 0} (f : ℕ → A) (r : Refusal) (n : ℕ) (done : A) → refusal_number r ≡ n → f (refusal_number r) ≡ unless n (f n) done
-refused_unless f r n done e = ap f e ∙ sym (unless_some n (f n) done (λ z. refusal_some r (e ∙ z)))
+pub unless_refused : {A : Type 0} (r : Refusal) (refused done : A) → unless (refusal_number r) refused done ≡ refused
+unless_refused r refused done = unless_some (refusal_number r) refused done (refusal_some r)
+
+-- refused or done
+pub ruleset outcomes = (unless_refused, unless_none)
 
 -- two tables that pass the check
 pub two_checked : (w : ℕ) (s t : List ℕ) (row : ℕ) → (check_of w s ≡ 0) × (check_of w t ≡ 0) → unlike (table_of w s) (table_of w t) row ≡ two_refused w s t row
@@ -61,3 +64,7 @@ two_checked w s t row c = sym (first_next _ _ c.0 ∙ tens_passed _ _ c.1 ∙ fi
 pub widths_said : (s t : List ℕ) (m n : ℕ) → 0 ≡ check_any s → 0 ≡ tens (check_any t) → m ≡ width_of s → n ≡ width_of t → when (not (eqb m n)) 19 ≡ two_widths s t
 unfolding two_widths
 widths_said s t m n a b p q = sym (first_next _ _ (sym a) ∙ first_next _ _ (sym b) ∙ first_one _ ∙ ap₂ (λ x y. when (not (eqb x y)) 19) (sym p) (sym q))
+
+-- and where they are one, both tables pass the check at it
+pub both_checked : (s t : List ℕ) (v : ℕ) → 0 ≡ check_any s → 0 ≡ tens (check_any t) → v ≡ width_of s → v ≡ width_of t → (check_of v s ≡ 0) × (check_of v t ≡ 0)
+both_checked s t v a b p q = (ap (λ w. check_of w s) p ∙ sym a, ap (λ w. check_of w t) q ∙ tens_none _ (sym b))

@@ -33,6 +33,7 @@ fn target_width(target: &[u32]) -> Result<Columns, Refusal>
 pub fn one_width(source: &[u32], target: &[u32]) -> Result<Columns, Refusal>
     ensures number { number_in result ≡ two_widths source.now target.now }
     ensures width { IfOk result (λ c. columns_in c ≡ width_of target.now) }
+    ensures checked { IfOk result (λ c. (check_of (columns_in c) source.now ≡ 0) × (check_of (columns_in c) target.now ≡ 0)) }
 {
     let columns = check_any(source)?;
     let other = target_width(target)?;

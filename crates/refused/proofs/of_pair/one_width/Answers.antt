@@ -2,7 +2,7 @@
 use mathlib.Core.Path.{sym, ap, ◌∙◌}
 use Rattle.paper.specs.Refusals.{when}
 use Rattle.vector.specs.Wideness.{columns_in}
-use Rattle.refused.proofs.FirstRefused.{widths_said}
+use Rattle.refused.proofs.FirstRefused.{widths_said, both_checked}
 use Rattle.refused.proofs.of_pair.one_width.Goals as goal
 
 pub returns-in-Eight-Eight-clause-number : goal.returns-in-Eight-Eight-clause-number
@@ -28,3 +28,13 @@ unfolding when
 returns-in_default-2-clause-number c =
     let s = c.in_ok-columns.ensures in let t = c.in_ok-other.ensures in
     widths_said _ _ 16 8 s.number t.number (ap columns_in (sym c.in_default.is-0) ∙ s.width) (ap columns_in (sym c.in_default.is-1) ∙ t.width)
+
+pub returns-in-Eight-Eight-clause-checked : goal.returns-in-Eight-Eight-clause-checked
+returns-in-Eight-Eight-clause-checked c =
+    let s = c.in_ok-columns.ensures in let t = c.in_ok-other.ensures in
+    both_checked _ _ 8 s.number t.number (ap columns_in (sym c.in-Eight-Eight.is-0) ∙ s.width) (ap columns_in (sym c.in-Eight-Eight.is-1) ∙ t.width)
+
+pub returns-in-Sixteen-Sixteen-clause-checked : goal.returns-in-Sixteen-Sixteen-clause-checked
+returns-in-Sixteen-Sixteen-clause-checked c =
+    let s = c.in_ok-columns.ensures in let t = c.in_ok-other.ensures in
+    both_checked _ _ 16 s.number t.number (ap columns_in (sym c.in-Sixteen-Sixteen.is-0) ∙ s.width) (ap columns_in (sym c.in-Sixteen-Sixteen.is-1) ∙ t.width)

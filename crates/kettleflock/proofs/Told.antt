@@ -1,6 +1,6 @@
 -- What is told of a result determines it: from a number back to the refusal, and from what a call tells to its result.
 use Prim.Native.Nat.{ℕ}
-use mathlib.Core.Path.{◌≡◌, refl, ap, ◌∙◌}
+use mathlib.Core.Path.{◌≡◌, refl, ap}
 use mathlib.Core.List.{List, [], ◌∷◌}
 use mathlib.Core.Bool.{cond}
 use lib.Dec.{eqb}

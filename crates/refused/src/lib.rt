@@ -33,7 +33,7 @@ pub fn content_refused(takes: bool, content: Content) -> Result<(), Refusal>
 // 15 where the table's counter can go no higher.
 #[tactic(auto, unfolding(paper::specs::Refusals::when))]
 fn counter_refused(table: &[u32]) -> Result<(), Refusal>
-    requires { 2 ≤ length table.now }
+    requires { 3 ≤ length table.now }
     ensures { number_in result ≡ when (eqb (get_or table.now 1 0) last_count) 15 }
 {
     if table[Head::COUNTER] == Head::LAST_COUNT {

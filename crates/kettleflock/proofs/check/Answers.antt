@@ -1,5 +1,5 @@
 -- Refused, or the rows.
-use mathlib.Core.Path.{◌≡◌, sym}
+use mathlib.Core.Path.{sym}
 use native.Mathlib.Omega.{arith}
 use Rattle.laws.proofs.Tables.{check_facts}
 use Rattle.kettleflock.proofs.check.Goals as goal

@@ -1,5 +1,5 @@
 -- The row of the side that was told, or no part.
-use mathlib.Core.Path.{refl, sym, ◌∙◌}
+use mathlib.Core.Path.{refl}
 use native.Mathlib.Omega.{arith}
 use Rattle.paper.specs.Shown.{side_at}
 use Rattle.kettleflock.proofs.Sides.{side_begins, shown, first_lies}

@@ -12,7 +12,13 @@ use contract.Lifetimes.{Lfts}
 use contract.Monad.{Fun, fact, fact_i, fact_use, conj, conj_l, conj_r}
 use denote.Triple.Entry.{Args, Res}
 use denote.Triple.Clauses.{Ended, Clauses, Lasts, AtExit, at_exit}
-use Rattle.paper.specs.Calls.{Answered, Changed, Passed, Masked}
+use Rattle.std.specs.Prelude.{Option, Result}
+use Rattle.paper.specs.declared.Ahead.{Ahead}
+use Rattle.paper.specs.declared.Refusal.{Refusal}
+use Rattle.paper.specs.declared.Side.{Side}
+use Rattle.paper.specs.Named.{side_number}
+use Rattle.paper.specs.Calls.{Answered, Changed, Passed, Masked, answer_of, masks_told}
+use Rattle.kettleflock.proofs.Told.{result_in, answer_back, ahead_in, masks_back, side_in, side_back}
 use Rattle.paper.specs.declared.Answer.{Answer}
 use Rattle.paper.specs.declared.Masks.{Masks}
 use Rattle.kettleflock.specs.contracts.check as check
@@ -98,18 +104,31 @@ masked o = record { number = o.number; source = o.source; target = o.target }
 abbrev pub side : ℕ → ℕ
 side o = o
 
+-- a result by what is told of it
+told_same : {x y : Result ℕ Refusal} → answer_of x ≡ answer_of y → x ≡ y
+told_same {x} {y} e = sym (answer_back x) ∙ ap result_in e ∙ answer_back y
+
+by_answer : {U : Type 0} {x y : Result ℕ Refusal} {u v : U} → (answer_of x ≡ answer_of y) × (u ≡ v) → (x ≡ y) × (u ≡ v)
+by_answer p = (told_same p.0, p.1)
+
+by_masks : {U : Type 0} {x y : Result Ahead Refusal} {u v : U} → (masks_told x ≡ masks_told y) × (u ≡ v) → (x ≡ y) × (u ≡ v)
+by_masks {x = x} {y = y} p = (sym (masks_back x) ∙ ap ahead_in p.0 ∙ masks_back y, p.1)
+
+by_side_number : {U : Type 0} {x y : Option Side} {u v : U} → (side_number x ≡ side_number y) × (u ≡ v) → (x ≡ y) × (u ≡ v)
+by_side_number {x = x} {y = y} p = (sym (side_back x) ∙ ap side_in p.0 ∙ side_back y, p.1)
+
 pub one_outcome : {M : Type 1} {𝓤 : Ura M} (𝓛 : Logic 𝓤) (m : Memory → SProp 𝓤) (f : Routine → Fun 𝓤) → OneOutcome 𝓤 𝓛 m f
 one_outcome {𝓤 = 𝓤} 𝓛 m f = record {
-  check = plain 𝓤 _ _ _ (λ κs a x y u v. by answered (λ o. (tt, tt)));
-  new = plain 𝓤 _ _ _ (λ κs a x y u v. by changed (λ o. (tt, (tt, (tt, (o.table, tt))))));
-  widen = plain 𝓤 _ _ _ (λ κs a x y u v. by changed (λ o. (tt, (o.table, tt))));
-  event = plain 𝓤 _ _ _ (λ κs a x y u v. by changed (λ o. (o.table, (tt, (tt, (tt, tt))))));
-  pass = plain 𝓤 _ _ _ (λ κs a x y u v. by passed (λ o. (tt, (o.target, (tt, (o.answers, tt))))));
-  settle = plain 𝓤 _ _ _ (λ κs a x y u v. by changed (λ o. (tt, (o.table, (tt, (tt, (tt, tt)))))));
-  ahead = plain 𝓤 _ _ _ (λ κs a x y u v. by masked (λ o. (tt, (tt, (tt, tt)))));
-  beneath_answer = plain 𝓤 _ _ _ (λ κs a x y u v. by answered (λ o. (tt, (tt, tt))));
-  standing_answer = plain 𝓤 _ _ _ (λ κs a x y u v. by answered (λ o. (tt, (tt, (tt, tt)))));
-  standing_side = plain 𝓤 _ _ _ (λ κs a x y u v. by side (λ o. (tt, (tt, (tt, tt)))));
+  check = plain 𝓤 _ _ _ (λ κs a x y u v p q. by_answer {x = x} {y = y} (by answered (λ o. (tt, tt)) p q));
+  new = plain 𝓤 _ _ _ (λ κs a x y u v p q. by_answer {x = x} {y = y} (by changed (λ o. (tt, (tt, (tt, (o.table, tt))))) p q));
+  widen = plain 𝓤 _ _ _ (λ κs a x y u v p q. by_answer {x = x} {y = y} (by changed (λ o. (tt, (o.table, tt))) p q));
+  event = plain 𝓤 _ _ _ (λ κs a x y u v p q. by_answer {x = x} {y = y} (by changed (λ o. (o.table, (tt, (tt, (tt, tt))))) p q));
+  pass = plain 𝓤 _ _ _ (λ κs a x y u v p q. by_answer {x = x} {y = y} (by passed (λ o. (tt, (o.target, (tt, (o.answers, tt))))) p q));
+  settle = plain 𝓤 _ _ _ (λ κs a x y u v p q. by_answer {x = x} {y = y} (by changed (λ o. (tt, (o.table, (tt, (tt, (tt, tt)))))) p q));
+  ahead = plain 𝓤 _ _ _ (λ κs a x y u v p q. by_masks {x = x} {y = y} (by masked (λ o. (tt, (tt, (tt, tt)))) p q));
+  beneath_answer = plain 𝓤 _ _ _ (λ κs a x y u v p q. by_answer {x = x} {y = y} (by answered (λ o. (tt, (tt, tt))) p q));
+  standing_answer = plain 𝓤 _ _ _ (λ κs a x y u v p q. by_answer {x = x} {y = y} (by answered (λ o. (tt, (tt, (tt, tt)))) p q));
+  standing_side = plain 𝓤 _ _ _ (λ κs a x y u v p q. by_side_number {x = x} {y = y} (by side (λ o. (tt, (tt, (tt, tt)))) p q));
   beneath = plain 𝓤 _ _ _ (λ κs a x y u v. part);
   standing = plain 𝓤 _ _ _ (λ κs a x y u v. part);
 }

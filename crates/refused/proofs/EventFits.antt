@@ -1,46 +1,21 @@
 -- Whether an event fits what stands at a row, by the row's kind word.
 use Prim.Native.Nat.{ℕ, ◌+◌, ◌*◌, ◌<◌}
 use mathlib.Core.Path.{◌≡◌, refl, ap, ◌∙◌}
-use mathlib.Core.Bool.{Bool, true, false, not, cond}
+use mathlib.Core.Bool.{Bool, true, false, cond}
 use mathlib.Core.List.{List}
 use mathlib.Core.Option.{none, some, map}
 use native.Mathlib.Omega.{arith}
 use lib.Dec.{eqb}
-use borrow.Author.Tests.{eq-eqb, ne_eqb}
 use lib.ListN.{get_or}
 use Rattle.paper.specs.declared.Event.{Event}
-use Rattle.paper.specs.declared.Event.TheVariants.{Changes as changes, Removes as removes}
-use Rattle.paper.specs.Acts.{fits, is_live}
-use Rattle.paper.specs.declared.Kind.TheVariants.{Never as never, Live as live, Removed as removed}
+use Rattle.paper.specs.Acts.{fits}
 use Rattle.paper.specs.Tree.{subtree, sheet_here}
 use Rattle.paper.specs.Order.{kind_word}
 use Rattle.paper.specs.Words.{wide, kind_of, row_of, sheet_of, table_of}
 use Rattle.paper.specs.Check.{check_of}
-use Rattle.paper.specs.Calls.{row_at, event_named, fits_sheet}
+use Rattle.paper.specs.Calls.{row_at, fits_sheet}
 use Rattle.two.proofs.Listed.{word_at}
 use Rattle.verdict.proofs.SheetAt.{sheet_row}
-
--- an event by its number, and the kinds that it fits
-pub fits_one : (n k : ℕ) → n ≡ 1 → fits (event_named n) (kind_of k) ≡ not (eqb k 1)
-unfolding event_named fits kind_of is_live
-fits_one n k e = rw (eq-eqb _ _ e) (go (eqb k 1) (eqb k 2))
-  where
-    go : (a b : Bool) → not (is_live (cond a live (cond b removed never))) ≡ not a
-    go true b = refl
-    go false true = refl
-    go false false = refl
-
-pub fits_other : (n k : ℕ) → (n ≡ 1 → ⊥) → fits (event_named n) (kind_of k) ≡ eqb k 1
-unfolding event_named fits kind_of is_live
-fits_other n k e = rw (ne_eqb _ _ e) (go (eqb n 2) (eqb k 1) (eqb k 2))
-  where
-    go : (c a b : Bool) → fits (cond c changes removes) (cond a live (cond b removed never)) ≡ a
-    go true true b = refl
-    go true false true = refl
-    go true false false = refl
-    go false true b = refl
-    go false false true = refl
-    go false false false = refl
 
 -- does an event fit what stands at a row? The row's kind word tells
 module _ (w : ℕ) (t : List ℕ) (c : check_of w t ≡ 0) where

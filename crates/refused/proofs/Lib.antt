@@ -1,3 +1,4 @@
+pub mod FirstRefused
+pub mod Named
 pub mod NewTable
 pub mod EventFits
-pub mod NamedNumbers

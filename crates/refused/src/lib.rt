@@ -1,4 +1,4 @@
-// Every refusal of the public calls, in the paper's order: helpers that only read. 0 where nothing refuses.
+// Every refusal of the public calls, in the paper's order: helpers that only read.
 
 #![tactic(auto)]
 
@@ -6,34 +6,38 @@ pub mod of_pair;
 pub mod of_showing;
 pub mod of_table;
 
-ghost use Rattle.std.specs.Prelude.{◌≡◌};
-ghost use Rattle.paper.specs.Calls.{one_to_three, content_if};
+ghost use Rattle.std.specs.Prelude.{◌≡◌, ◌≤◌, eqb, get_or, length};
+ghost use Rattle.paper.specs.Refusals.{number_in, when};
+ghost use Rattle.paper.specs.Calls.{content_if, last_count};
 
-use paper::Content;
-
-// Event or choice is 1, 2 or 3.
-pub fn is_one_to_three(n: u32) -> bool
-    ensures { result ≡ one_to_three n }
-{
-    if n == 0 {
-        return false;
-    }
-    n <= 3
-}
+use paper::{Content, Refusal};
+use vector::head::Head;
 
 // What refuses the content of a call, where it is taken: 21, 22.
 #[tactic(auto, unfolding(paper::specs::Calls::content_refused, paper::specs::Refusals::first, paper::specs::Refusals::when))]
-pub fn content_refused(takes: bool, content: Content) -> u32
-    ensures { result ≡ content_if takes content }
+pub fn content_refused(takes: bool, content: Content) -> Result<(), Refusal>
+    ensures { number_in result ≡ content_if takes content }
 {
     if !takes {
-        return 0;
+        return Ok(());
     }
     if Content::MOST_CLASS < content.class {
-        return 21;
+        return Err(Refusal::NoSuchClass);
     }
     if content.mark == 0 {
-        return 22;
+        return Err(Refusal::NoMark);
     }
-    0
+    Ok(())
+}
+
+// 15 where the table's counter can go no higher.
+#[tactic(auto, unfolding(paper::specs::Refusals::when))]
+fn counter_refused(table: &[u32]) -> Result<(), Refusal>
+    requires { 3 ≤ length table.now }
+    ensures { number_in result ≡ when (eqb (get_or table.now 1 0) last_count) 15 }
+{
+    if table[Head::COUNTER] == Head::LAST_COUNT {
+        return Err(Refusal::CounterFull);
+    }
+    Ok(())
 }

@@ -1,140 +1,151 @@
 // What refuses two tables and a row: a pass, a settling, the question who is ahead.
-ghost use Rattle.std.specs.Prelude.{◌≡◌, ◌≤◌};
-ghost use Rattle.paper.specs.Acts.{choice_takes};
+ghost use Rattle.std.specs.Prelude.{◌≡◌, not, [], ◌∷◌, IfOk};
 ghost use Rattle.paper.specs.Words.{table_of};
 ghost use Rattle.paper.specs.Check.{check_of};
-ghost use Rattle.paper.specs.Calls.{unlike, choice_named};
-ghost use Rattle.paper.specs.Widths.{two_refused_any, pass_refused_any, settle_refused_any, ahead_refused_any};
-ghost use Rattle.paper.specs.Devices.{devices};
+ghost use Rattle.paper.specs.Refusals.{number_in, first, when, tens};
+ghost use Rattle.paper.specs.Calls.{two_refused, pass_refused, settle_refused, ahead_refused, ruling_here, is_folder, conflicts};
+ghost use Rattle.paper.specs.Named.{choice_number};
+ghost use Rattle.paper.specs.Widths.{check_any, two_widths, width_of};
+ghost use Rattle.vector.specs.Wideness.{columns_in};
 
-use crate::{content_refused, is_one_to_three};
-use paper::{Choice, Content};
-use table::check::check;
-use table::head::{clock_of, columns_of};
+use crate::{content_refused, counter_refused};
+use paper::{Choice, Content, Refusal, Ruling};
+use table::check::check_any;
+use table::head::clock_of;
 use two::later::names_later;
 use two::shape::same_shape;
 use vector::head::Head;
-use vector::row::Row;
+use vector::row::{Columns, Row};
+use vector::width::Width;
 use verdict::ruling::ruling_at;
 
-// 4 to 8, for tables that pass the check.
-fn unlike(source: &[u32], target: &[u32], row: u32, columns: usize) -> u32
-    requires { (check_of columns source.now ≡ 0) × (check_of columns target.now ≡ 0) × (columns ≤ devices) }
-    ensures { result ≡ unlike (table_of columns source.now) (table_of columns target.now) row }
+// 11 to 13 of a target; where nothing refuses, its width.
+#[tactic(auto, unfolding(paper::specs::Refusals::tens))]
+fn target_width(target: &[u32]) -> Result<Columns, Refusal>
+    ensures number { number_in result ≡ tens (check_any target.now) }
+    ensures width { IfOk result (λ c. columns_in c ≡ width_of target.now) }
 {
-    if !same_shape(source, target, columns) {
-        return 4;
+    check_any(target).map_err(Refusal::Target)
+}
+
+// 1 to 3 of the source, 11 to 13 of the target, 19 where their widths differ; where nothing refuses, their one width.
+#[tactic(auto, unfolding(paper::specs::Widths::two_widths), using(crate::proofs::FirstRefused::refusals))]
+pub fn one_width(source: &[u32], target: &[u32]) -> Result<Columns, Refusal>
+    ensures number { number_in result ≡ two_widths source.now target.now }
+    ensures width { IfOk result (λ c. columns_in c ≡ width_of target.now) }
+    ensures checked { IfOk result (λ c. (check_of (columns_in c) source.now ≡ 0) × (check_of (columns_in c) target.now ≡ 0)) }
+{
+    let columns = check_any(source)?;
+    let other = target_width(target)?;
+    match (columns, other) {
+        (Columns::Eight(w), Columns::Eight(_)) => Ok(Columns::Eight(w)),
+        (Columns::Sixteen(w), Columns::Sixteen(_)) => Ok(Columns::Sixteen(w)),
+        _ => Err(Refusal::Width),
+    }
+}
+
+// 4 to 8, for tables that pass the check.
+pub fn two_refused<const N: usize>(
+    source: &[u32],
+    target: &[u32],
+    row: u32,
+    w: Width<N>,
+) -> Result<(), Refusal>
+    requires { (check_of N source.now ≡ 0) × (check_of N target.now ≡ 0) }
+    ensures { number_in result ≡ two_refused N source.now target.now row }
+{
+    if !same_shape(source, target, N) {
+        return Err(Refusal::PlacesDiffer);
     }
     let a = clock_of(source);
     let b = clock_of(target);
     if a.device == b.device {
-        return 5;
+        return Err(Refusal::OneDevice);
     }
-    if names_later(source, b, columns) {
-        return 6;
+    if names_later(source, b, N) {
+        return Err(Refusal::SourceAhead);
     }
-    if names_later(target, a, columns) {
-        return 7;
+    if names_later(target, a, N) {
+        return Err(Refusal::TargetAhead);
     }
     if target[Head::ROWS] <= row {
-        return 8;
+        return Err(Refusal::NoSuchRow);
     }
-    0
-}
-
-// 1 to 3 of the source, 11 to 13 of the target, 19 where their widths differ, then 4 to 8; 0 where nothing refuses.
-pub fn two_refused(source: &[u32], target: &[u32], row: u32) -> u32
-    ensures { result ≡ two_refused_any source.now target.now row }
-{
-    let number = check(source);
-    if number != 0 {
-        return number;
-    }
-    let number = check(target);
-    if number != 0 {
-        return number + 10;
-    }
-    let columns = columns_of(target);
-    if columns_of(source) != columns {
-        return 19;
-    }
-    unlike(source, target, row, columns)
+    Ok(())
 }
 
 // The first refusal of a pass: those of two tables and a row, then 9.
-pub fn pass_refused(source: &[u32], target: &[u32], row: u32, answers: &[u32]) -> u32
-    ensures { result ≡ pass_refused_any source.now target.now row answers.now }
+#[tactic(auto, unfolding(paper::specs::Calls::pass_refused), using(crate::proofs::FirstRefused::refusals))]
+pub fn pass_refused<const N: usize>(
+    source: &[u32],
+    target: &[u32],
+    row: u32,
+    answers: &[u32],
+    w: Width<N>,
+) -> Result<(), Refusal>
+    requires { (check_of N source.now ≡ 0) × (check_of N target.now ≡ 0) }
+    ensures { number_in result ≡ pass_refused N source.now target.now row answers.now }
 {
-    let number = two_refused(source, target, row);
-    if number != 0 {
-        return number;
-    }
-    let width = Row::FLOOR + 4 * columns_of(target);
-    let at = (row as usize + 1) * width;
+    two_refused(source, target, row, w)?;
+    let at = (row as usize + 1) * (Row::FLOOR + 4 * N);
     if answers.len() != target[at + Row::SIZE] as usize {
-        return 9;
+        return Err(Refusal::WrongLength);
     }
-    0
+    Ok(())
 }
 
-// Whether a choice takes the content that is handed in.
-pub fn choice_takes(choice: u32) -> bool
-    ensures { result ≡ choice_takes (choice_named choice) }
+// 10 where the row is a folder, 14 where the rules say no conflict.
+#[tactic(auto, unfolding(paper::specs::Refusals::first, paper::specs::Refusals::when))]
+fn conflict_refused<const N: usize>(
+    source: &[u32],
+    target: &[u32],
+    row: u32,
+    w: Width<N>,
+) -> Result<(), Refusal>
+    requires { two_refused N source.now target.now row ≡ 0 }
+    ensures { let said = ruling_here (table_of N source.now) (table_of N target.now) row in
+        number_in result ≡ first (when (is_folder said) 10 ∷ when (not (conflicts said)) 14 ∷ []) }
 {
-    if choice == Choice::THEIRS {
-        return false;
+    match ruling_at(source, target, row as usize, w) {
+        None => Err(Refusal::Unfit),
+        Some(Ruling::Conflict) => Ok(()),
+        Some(_) => Err(Refusal::NoConflict),
     }
-    choice != Choice::OWN
 }
 
-// As a pass up to 8, then 16, 21, 22, 10, 14, 15.
-pub fn settle_refused(
+// As a pass up to 8, then 16, 21, 22, 10, 14, 15; where nothing refuses, the choice.
+#[tactic(auto, unfolding(paper::specs::Calls::settle_refused), using(crate::proofs::FirstRefused::refusals))]
+pub fn settle_refused<const N: usize>(
     source: &[u32],
     target: &[u32],
     row: u32,
     choice: u32,
     content: Content,
-) -> u32
-    ensures { result ≡ settle_refused_any source.now target.now row choice content }
+    w: Width<N>,
+) -> Result<Choice, Refusal>
+    requires { (check_of N source.now ≡ 0) × (check_of N target.now ≡ 0) }
+    ensures number { number_in result ≡ settle_refused N source.now target.now row choice content }
+    ensures named { IfOk result (λ c. choice ≡ choice_number c) }
 {
-    let number = two_refused(source, target, row);
-    if number != 0 {
-        return number;
-    }
-    if !is_one_to_three(choice) {
-        return 16;
-    }
-    let number = content_refused(choice_takes(choice), content);
-    if number != 0 {
-        return number;
-    }
-    let said = ruling_at(source, target, row as usize, columns_of(target));
-    if said.is_folder() {
-        return 10;
-    }
-    if !said.is_conflict() {
-        return 14;
-    }
-    if target[Head::COUNTER] == Head::LAST_COUNT {
-        return 15;
-    }
-    0
+    two_refused(source, target, row, w)?;
+    let named = Choice::try_from(choice)?;
+    content_refused(named.takes_content(), content)?;
+    conflict_refused(source, target, row, w)?;
+    counter_refused(target)?;
+    Ok(named)
 }
 
-// As a settling, without 16 and 15: then a mask for each side can be told.
-pub fn ahead_refused(source: &[u32], target: &[u32], row: u32) -> u32
-    ensures { result ≡ ahead_refused_any source.now target.now row }
+// As a settling, without 16, 21, 22 and 15: then a mask for each side can be told.
+#[tactic(auto, unfolding(paper::specs::Calls::ahead_refused), using(crate::proofs::FirstRefused::refusals))]
+pub fn ahead_refused<const N: usize>(
+    source: &[u32],
+    target: &[u32],
+    row: u32,
+    w: Width<N>,
+) -> Result<(), Refusal>
+    requires { (check_of N source.now ≡ 0) × (check_of N target.now ≡ 0) }
+    ensures { number_in result ≡ ahead_refused N source.now target.now row }
 {
-    let number = two_refused(source, target, row);
-    if number != 0 {
-        return number;
-    }
-    let said = ruling_at(source, target, row as usize, columns_of(target));
-    if said.is_folder() {
-        return 10;
-    }
-    if !said.is_conflict() {
-        return 14;
-    }
-    0
+    two_refused(source, target, row, w)?;
+    conflict_refused(source, target, row, w)
 }

@@ -1,45 +1,46 @@
 // What refuses a showing: of the rows beneath a folder, and of the row that stands.
-ghost use Rattle.std.specs.Prelude.{◌≡◌};
-ghost use Rattle.paper.specs.Calls.{beneath_refused};
-ghost use Rattle.paper.specs.Widths.{width_of, standing_refused_any};
+ghost use Rattle.std.specs.Prelude.{◌≡◌, IfOk};
+ghost use Rattle.paper.specs.Words.{table_of};
+ghost use Rattle.paper.specs.Check.{check_of};
+ghost use Rattle.paper.specs.Refusals.{number_in};
+ghost use Rattle.paper.specs.Calls.{beneath_refused, standing_refused, ruling_here};
+ghost use Rattle.std.proofs.Math.Option.{some};
 
 use crate::of_pair::two_refused;
+use paper::{Refusal, Ruling};
 use table::check::check;
-use table::head::columns_of;
 use vector::head::Head;
 use vector::row::Row;
+use vector::width::Width;
 use verdict::ruling::ruling_at;
 
 // The first refusal of a showing of the rows beneath a folder: 1, 2, 3, 8.
-pub fn beneath_refused(table: &[u32], row: u32) -> u32
-    ensures { result ≡ beneath_refused (width_of table.now) table.now row }
+#[tactic(auto, unfolding(paper::specs::Calls::beneath_refused), using(crate::proofs::FirstRefused::refusals))]
+pub fn beneath_refused<const N: usize>(table: &[u32], row: u32, w: Width<N>) -> Result<(), Refusal>
+    ensures { number_in result ≡ beneath_refused N table.now row }
 {
-    let number = check(table);
-    if number != 0 {
-        return number;
-    }
+    check(table, w)?;
     if table[Head::ROWS] <= row {
-        return 8;
+        return Err(Refusal::NoSuchRow);
     }
-    let width = Row::FLOOR + 4 * columns_of(table);
-    let at = (row as usize + 1) * width;
-    if table[at] != Row::FOLDER {
-        return 8;
+    if table[(row as usize + 1) * (Row::FLOOR + 4 * N)] != Row::FOLDER {
+        return Err(Refusal::NoSuchRow);
     }
-    0
+    Ok(())
 }
 
-// As a pass up to 8, then 10.
-pub fn standing_refused(source: &[u32], target: &[u32], row: u32) -> u32
-    ensures { result ≡ standing_refused_any source.now target.now row }
+// As a pass up to 8, then 10; where nothing refuses, what the rules say.
+#[tactic(auto, unfolding(paper::specs::Calls::standing_refused), using(crate::proofs::FirstRefused::refusals))]
+pub fn standing_refused<const N: usize>(
+    source: &[u32],
+    target: &[u32],
+    row: u32,
+    w: Width<N>,
+) -> Result<Ruling, Refusal>
+    requires { (check_of N source.now ≡ 0) × (check_of N target.now ≡ 0) }
+    ensures number { number_in result ≡ standing_refused N source.now target.now row }
+    ensures said { IfOk result (λ r. some r ≡ ruling_here (table_of N source.now) (table_of N target.now) row) }
 {
-    let number = two_refused(source, target, row);
-    if number != 0 {
-        return number;
-    }
-    let said = ruling_at(source, target, row as usize, columns_of(target));
-    if said.is_folder() {
-        return 10;
-    }
-    0
+    two_refused(source, target, row, w)?;
+    ruling_at(source, target, row as usize, w).ok_or(Refusal::Unfit)
 }

@@ -1,112 +1,92 @@
-// What refuses a new table, and one table alone: an event, a widening, a showing of the rows beneath a folder.
-ghost use Rattle.std.specs.Prelude.{◌≡◌, cond, false, eqb, ◌≤◌};
-ghost use Rattle.paper.specs.Acts.{fits, takes_content};
+// What refuses a new table, and one table alone: an event, a widening.
+ghost use Rattle.std.specs.Prelude.{◌≡◌, cond, false, eqb, IfOk};
+ghost use Rattle.paper.specs.Acts.{fits};
 ghost use Rattle.paper.specs.Words.{kind_of};
-ghost use Rattle.paper.specs.Calls.{new_refused, event_named, event_refused};
-ghost use Rattle.paper.specs.Widths.{width_of, eight_or_sixteen, widen_refused};
-ghost use Rattle.paper.specs.Devices.{devices};
+ghost use Rattle.paper.specs.Refusals.{number_in};
+ghost use Rattle.paper.specs.Calls.{new_refused, event_refused};
+ghost use Rattle.paper.specs.Named.{event_number};
+ghost use Rattle.paper.specs.Widths.{widen_refused};
 
-use crate::{content_refused, is_one_to_three};
-use paper::{Content, Event};
+use crate::{content_refused, counter_refused};
+use paper::{Content, Event, Fault, Refusal};
 use plan::plan_fits;
-use table::check::check;
-use table::head::columns_of;
+use table::check::{check, check_any};
 use vector::head::Head;
-use vector::row::{Narrow, Row, Wide};
+use vector::row::{Columns, Row, Wide};
+use vector::width::Width;
 
-// Is it a number of columns that there is?
-pub fn is_width(columns: u32) -> bool
-    ensures { result ≡ eight_or_sixteen columns }
+// The first refusal of a new table of this width: 17, 2, 9.
+#[tactic(auto, unfolding(paper::specs::Calls::new_refused), using(crate::proofs::FirstRefused::refusals))]
+pub fn new_refused<const N: usize>(
+    device: u32,
+    plan: &[u32],
+    table: &[u32],
+    w: Width<N>,
+) -> Result<(), Refusal>
+    ensures { number_in result ≡ new_refused N device plan.now table.now }
 {
-    if columns as usize == Narrow::COLUMNS {
-        return true;
-    }
-    columns as usize == Wide::COLUMNS
-}
-
-// The first refusal of a new table of so many columns: 17, 2, 9.
-pub fn new_refused(columns: usize, device: u32, plan: &[u32], table: &[u32]) -> u32
-    requires { columns ≤ devices }
-    ensures { result ≡ new_refused columns device plan.now table.now }
-{
-    if columns <= device as usize {
-        return 17;
+    if N <= device as usize {
+        return Err(Refusal::NoSuchDevice);
     }
     if !plan_fits(plan) {
-        return 2;
+        return Err(Refusal::Table(Fault::Order));
     }
-    let width = Row::FLOOR + 4 * columns;
+    let width = Row::FLOOR + 4 * N;
     if table.len() != plan.len() * width + width {
-        return 9;
+        return Err(Refusal::WrongLength);
     }
-    0
+    Ok(())
 }
 
 // The first refusal of a widening: 1, 2, 3, 19 where the table is wide already, 9.
-pub fn widen_refused(table: &[u32], wider: &[u32]) -> u32
-    ensures { result ≡ widen_refused table.now wider.now }
+#[tactic(auto, unfolding(paper::specs::Widths::widen_refused), using(crate::proofs::FirstRefused::refusals))]
+pub fn widen_refused(table: &[u32], wider: &[u32]) -> Result<(), Refusal>
+    ensures { number_in result ≡ widen_refused table.now wider.now }
 {
-    let number = check(table);
-    if number != 0 {
-        return number;
-    }
-    if columns_of(table) == Wide::COLUMNS {
-        return 19;
+    if let Columns::Sixteen(_) = check_any(table)? {
+        return Err(Refusal::Width);
     }
     if wider.len() != table[Head::ROWS] as usize * Wide::WIDTH + Wide::WIDTH {
-        return 9;
+        return Err(Refusal::WrongLength);
     }
-    0
+    Ok(())
 }
 
 // Does an event fit a row of this kind?
-pub fn fits_kind(event: u32, kind: u32) -> bool
-    ensures { result ≡ cond (eqb kind 3) false (fits (event_named event) (kind_of kind)) }
+#[tactic(auto, unfolding(paper::specs::Acts::fits, paper::specs::Words::kind_of, paper::specs::Acts::is_live))]
+fn fits_kind(event: Event, kind: u32) -> bool
+    ensures { result ≡ cond (eqb kind 3) false (fits event (kind_of kind)) }
 {
     if kind == Row::FOLDER {
         return false;
     }
-    if event == 1 {
-        return kind != Row::LIVE;
+    match event {
+        Event::Creates => kind != Row::LIVE,
+        Event::Changes | Event::Removes => kind == Row::LIVE,
     }
-    kind == Row::LIVE
 }
 
-// Whether an event takes the content that is handed in.
-pub fn takes_content(event: u32) -> bool
-    ensures { result ≡ takes_content (event_named event) }
+// The first refusal of an event: 1, 2, 3, 16, 21, 22, 8, 10, 15; where nothing refuses, the event.
+#[tactic(auto, unfolding(paper::specs::Calls::event_refused), using(crate::proofs::FirstRefused::refusals))]
+pub fn event_refused<const N: usize>(
+    table: &[u32],
+    row: u32,
+    event: u32,
+    content: Content,
+    w: Width<N>,
+) -> Result<Event, Refusal>
+    ensures number { number_in result ≡ event_refused N table.now row event content }
+    ensures named { IfOk result (λ e. event ≡ event_number e) }
 {
-    if event == Event::CREATES {
-        return true;
-    }
-    event == Event::CHANGES
-}
-
-// The first refusal of an event: 1, 2, 3, 16, 21, 22, 8, 10, 15.
-pub fn event_refused(table: &[u32], row: u32, event: u32, content: Content) -> u32
-    ensures { result ≡ event_refused (width_of table.now) table.now row event content }
-{
-    let number = check(table);
-    if number != 0 {
-        return number;
-    }
-    if !is_one_to_three(event) {
-        return 16;
-    }
-    let number = content_refused(takes_content(event), content);
-    if number != 0 {
-        return number;
-    }
+    check(table, w)?;
+    let named = Event::try_from(event)?;
+    content_refused(named.takes_content(), content)?;
     if table[Head::ROWS] <= row {
-        return 8;
+        return Err(Refusal::NoSuchRow);
     }
-    let width = Row::FLOOR + 4 * columns_of(table);
-    let at = (row as usize + 1) * width;
-    if !fits_kind(event, table[at]) {
-        return 10;
+    if !fits_kind(named, table[(row as usize + 1) * (Row::FLOOR + 4 * N)]) {
+        return Err(Refusal::Unfit);
     }
-    if table[Head::COUNTER] == Head::LAST_COUNT {
-        return 15;
-    }
-    0
+    counter_refused(table)?;
+    Ok(named)
 }

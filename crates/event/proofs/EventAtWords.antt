@@ -5,7 +5,7 @@ use mathlib.Core.Bool.{true, false≢true}
 use mathlib.Core.List.{List}
 use mathlib.Core.Option.{Option, none, some}
 use native.Mathlib.Omega.{arith}
-use borrow.Author.Tests.{eqb-false, leb-false, eq-eqb, ne_eqb}
+use borrow.Author.Tests.{eqb-false, leb-false}
 use lib.ListN.{length, get_or}
 use Rattle.paper.specs.declared.Stamp.{Stamp}
 use Rattle.paper.specs.declared.Content.{Content}
@@ -16,6 +16,7 @@ use Rattle.paper.specs.Acts.{event_row}
 use Rattle.paper.specs.Tree.{subtree, sheet_here, size, Sheet}
 use Rattle.paper.specs.Words.{wide, kind_number, sheet_words, Table, table_of}
 use Rattle.paper.specs.Check.{check_of}
+use Rattle.paper.specs.Named.{event_number}
 use Rattle.paper.specs.Calls.{one_to_three, event_named, fits_sheet, last_count, new_stamp, ticked, event_refused, event_sheet, event_done}
 use Rattle.laws.proofs.Refusals.{first_both, none_so, when_none}
 use Rattle.laws.proofs.Tables.{check_facts, checked_size}
@@ -68,18 +69,15 @@ event_room w t row event f =
     let c = check_facts w t f.check in
     record { device = c.head.device; counter = f.room; few = c.head.few; long = c.head.long; there = omega (arith, checked_size w t c, f.there) }
 
--- an event by its number
-pub event_one : (n : ℕ) → n ≡ 1 → event_named n ≡ creates
+-- an event is the one that its number names
+named_event : (e : Event) → event_named (event_number e) ≡ e
 unfolding event_named
-event_one n e = rw (eq-eqb _ _ e)
+named_event creates = refl
+named_event changes = refl
+named_event removes = refl
 
-pub event_two : (n : ℕ) → n ≡ 2 → event_named n ≡ changes
-unfolding event_named
-event_two n e = rw e
-
-pub event_three : (n : ℕ) → (n ≡ 1 → ⊥) → (n ≡ 2 → ⊥) → event_named n ≡ removes
-unfolding event_named
-event_three n e f = rw (ne_eqb _ _ e, ne_eqb _ _ f)
+pub written_named : (e : Event) (s : Stamp) (m : Content) (t : List ℕ) {r : List ℕ} → r ≡ event_words e s m t → r ≡ event_words (event_named (event_number e)) s m t
+written_named e s m t h = rw (named_event e) h
 
 -- the sheet that the event fits
 sheet_there : (w : ℕ) (t : List ℕ) (row event : ℕ) → EventFits w t row event → SheetAt w t row

@@ -18,6 +18,7 @@ use Rattle.paper.specs.Acts.{birth_of, with_stamp, settle_row}
 use Rattle.paper.specs.Tree.{sheet_here, Sheet, above}
 use Rattle.paper.specs.Walk.{Two, zip, raised, rule_at}
 use Rattle.paper.specs.Words.{kind_number, floor_of, sheet_words, Table, table_of}
+use Rattle.paper.specs.Named.{choice_number}
 use Rattle.paper.specs.Calls.{row_at, new_stamp, ticked, last_count, two_refused, pair_at, ruling_here, conflicts, choice_named, settle_refused, settle_sheet, settle_done}
 use Rattle.laws.proofs.Refusals.{first_both, none_so, when_none}
 use Rattle.laws.proofs.WrittenRows.{sheet_read}
@@ -33,25 +34,22 @@ use Rattle.mend.specs.Restamped.{restamped}
 use Rattle.mend.proofs.PutInPlace.{SheetAt, FineSheet, Changed, there, good, narrow_above, sheet_fine, sheet_part}
 use Rattle.mend.proofs.SheetInPlace.{cut_row, put_row, sheet_made}
 
--- THE CHOICE by its number
-module _ (n : ℕ) (m : Content) (s r : List ℕ) where
-  pub chosen_theirs : n ≡ 1 → taken_from s r ≡ chosen_words (choice_named n) m s r
-  unfolding choice_named chosen_words
-  chosen_theirs e = rw (eq-eqb n 1 e)
+-- THE CHOICE is the one that its number names
+named_choice : (c : Choice) → choice_named (choice_number c) ≡ c
+unfolding choice_named
+named_choice theirs = refl
+named_choice own = refl
+named_choice new = refl
 
-  pub chosen_own : n ≡ 2 → r ≡ chosen_words (choice_named n) m s r
-  unfolding choice_named chosen_words
-  chosen_own e = rw e
-
-  pub chosen_new : (n ≡ 1 → ⊥) → (n ≡ 2 → ⊥) → new_words m s r ≡ chosen_words (choice_named n) m s r
-  unfolding choice_named chosen_words
-  chosen_new e f = rw (ne_eqb n 1 e, ne_eqb n 2 f)
+pub settled_named : (w : ℕ) (b : Clock) (v : Vec) (c : Choice) (m : Content) (s r u : List ℕ) (k : Ticked) → RowSettled w b v c m s r u k
+    → RowSettled w b v (choice_named (choice_number c)) m s r u k
+settled_named w b v c m s r u k h = subst (λ x. RowSettled w b v x m s r u k) (sym (named_choice c)) h
 
 -- THE ROW step by step, as the code goes: its floor raised, `one`, the choice, `two`, and the new stamp
-pub row_settled : (w : ℕ) (b : Clock) (v : Vec) (n : ℕ) (m : Content) (s r one two : List ℕ) (k : Ticked) → one ≡ floored w (raised b (floor_of w r) v) r
-    → two ≡ chosen_words (choice_named n) m s one → (k.clock ≡ ticked b) × (k.stamp ≡ new_stamp b) → RowSettled w b v n m s r (restamped k.stamp two) k
+pub row_settled : (w : ℕ) (b : Clock) (v : Vec) (c : Choice) (m : Content) (s r one two : List ℕ) (k : Ticked) → one ≡ floored w (raised b (floor_of w r) v) r
+    → two ≡ chosen_words c m s one → (k.clock ≡ ticked b) × (k.stamp ≡ new_stamp b) → RowSettled w b v c m s r (restamped k.stamp two) k
 unfolding settled_words
-row_settled w b v n m s r one two k raise choose up = (up.0, up.1, ap₂ restamped up.1 (choose ∙ ap (chosen_words (choice_named n) m s) raise))
+row_settled w b v c m s r one two k raise choose up = (up.0, up.1, ap₂ restamped up.1 (choose ∙ ap (chosen_words c m s) raise))
 
 -- a sheet's row with the floor f
 floor_words : (w : ℕ) (x : Sheet) (f : Vec) → floored w f (sheet_words w x) ≡ sheet_words w (record { row = x.row; floor = f })
@@ -180,7 +178,7 @@ module _ (w : ℕ) (s t : List ℕ) (row choice : ℕ) (content : Content) (ok :
 
   -- A SETTLING IN PLACE: the row's part came back settled, and the counter is that of the clock afterwards
   pub settle_changed : (v : Vec) (e : List ℕ) (k : Ticked) → v ≡ full a.clock (above a.tree row) (floor_of w (row_at w s row))
-      → RowSettled w b.clock v choice content (cut_row w s row) (cut_row w t row) e k
+      → RowSettled w b.clock v c content (cut_row w s row) (cut_row w t row) e k
       → Changed w t (put_row w t row e k.clock.counter) row (settle_done a b row c content)
   unfolding settle_done
   settle_changed v e k known wrote =

@@ -30,8 +30,8 @@ unfoldable pub settled_words : ℕ → Clock → Vec → Choice → Content → 
 settled_words w b v c m s r = restamped (new_stamp b) (chosen_words c m s (floored w (raised b (floor_of w r) v) r))
 
 -- the row r of a table with the clock b is settled: u is the row afterwards, and k the clock gone up, with its stamp
-abbrev pub RowSettled : ℕ → Clock → Vec → ℕ → Content → List ℕ → List ℕ → List ℕ → Ticked → Type 0
-RowSettled w b v choice m s r u k = (k.clock ≡ ticked b) × (k.stamp ≡ new_stamp b) × (u ≡ settled_words w b v (choice_named choice) m s r)
+abbrev pub RowSettled : ℕ → Clock → Vec → Choice → Content → List ℕ → List ℕ → List ℕ → Ticked → Type 0
+RowSettled w b v choice m s r u k = (k.clock ≡ ticked b) × (k.stamp ≡ new_stamp b) × (u ≡ settled_words w b v choice m s r)
 
 -- the conflict of the tables s and t is settled in t: u is t afterwards, and n the count of the new stamp
 abbrev pub SettleMade : ℕ → List ℕ → List ℕ → List ℕ → ℕ → ℕ → Content → ℕ → Type 0

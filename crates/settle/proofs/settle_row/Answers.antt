@@ -5,11 +5,11 @@ use borrow.Author.Rules.{rules}
 use Rattle.settle.proofs.settle_row.Goals as goal
 
 pub bounds-r : goal.bounds-r
-bounds-r c = simp length-set (search rules)
+bounds-r g c = simp length-set (search rules)
 
 pub shape_of-r : goal.shape_of-r
-shape_of-r c = simp length-set (search rules)
+shape_of-r g c = simp length-set (search rules)
 
 pub returns : goal.returns
-returns c =
+returns g c =
     row_settled _ _ _ _ _ _ _ _ _ _ c.raise_floor.ensures c.write_chosen.ensures c.ticking-ticked.ensures

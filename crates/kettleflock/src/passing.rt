@@ -39,6 +39,6 @@ fn pass_at<const N: usize>(
     ensures { passed (answer_of result) target.new answers.new ≡ pass_of N source.now target.old row answers.old }
 {
     pass_refused(source, target, row, answers, w)?;
-    let count = make_pass(source, target, row as usize, answers, N);
+    let count = make_pass(source, target, row as usize, answers, w);
     Ok(count)
 }

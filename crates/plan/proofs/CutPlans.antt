@@ -210,7 +210,6 @@ pub record Upto (w device : ℕ) (p t : List ℕ) (row : ℕ) : Type 0 where
   pub columns : w ≤ devices
   pub few : length p ≤ 256
   pub room : length t ≡ length p * wide w + wide w
-  pub upto : row ≤ length p
   pub done : take ((row + 1) * wide w) t ≡ head w device p ++ planned w (take row p)
 
 module _ (w device : ℕ) (p t : List ℕ) where
@@ -223,7 +222,6 @@ module _ (w device : ℕ) (p t : List ℕ) where
         columns = b;
         few = f;
         room = head_length (wide w) t e n l ∙ r;
-        upto = omega arith;
         done = head_words_lem (wide w) t e n l ∙ q ∙ sym (append-nil _) ∙ ap (λ l. head w device p ++ l) (sym (planned_none w));
       }
 
@@ -242,7 +240,6 @@ module _ (w device : ℕ) (p t : List ℕ) where
       columns = u.columns;
       few = u.few;
       room = same_len_mid ((row + 1) * wide w) ((row + 1) * wide w + wide w - (row + 1) * wide w) t e l ∙ u.room;
-      upto = omega arith;
       done = row_words (wide w) t e (row + 1) _ u.done (room_here h).0 l ∙ append_assoc (head w device p) _ e
           ∙ ap (λ l. head w device p ++ l) (ap (λ x. planned w (take row p) ++ x) q ∙ sym (planned_more w row p h));
     }

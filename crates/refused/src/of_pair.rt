@@ -54,7 +54,7 @@ pub fn two_refused<const N: usize>(
     requires { (check_of N source.now ≡ 0) × (check_of N target.now ≡ 0) }
     ensures { number_in result ≡ two_refused N source.now target.now row }
 {
-    if !same_shape(source, target, N) {
+    if !same_shape(source, target, w) {
         return Err(Refusal::PlacesDiffer);
     }
     let a = clock_of(source);
@@ -62,10 +62,10 @@ pub fn two_refused<const N: usize>(
     if a.device == b.device {
         return Err(Refusal::OneDevice);
     }
-    if names_later(source, b, N) {
+    if names_later(source, b, w) {
         return Err(Refusal::SourceAhead);
     }
-    if names_later(target, a, N) {
+    if names_later(target, a, w) {
         return Err(Refusal::TargetAhead);
     }
     if target[Head::ROWS] <= row {

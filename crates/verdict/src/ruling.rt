@@ -38,8 +38,8 @@ pub fn ruling_at<const N: usize>(
     if target[at + Row::KIND] == Row::FOLDER {
         return None;
     }
-    let ka = known_time(source, row, N);
-    let kb = known_time(target, row, N);
+    let ka = known_time(source, row, w);
+    let kb = known_time(target, row, w);
     let ruling = judge(&source[at..end], &target[at..end], ka, kb);
     Some(ruling)
 }
@@ -49,8 +49,8 @@ pub fn masks_at<const N: usize>(source: &[u32], target: &[u32], row: usize, w: W
     requires { ahead_refused N source.now target.now row ≡ 0 }
     ensures { masked (masks_told (Ok result)) ≡ masks_of (ahead_here N (table_of N source.now) (table_of N target.now) row) }
 {
-    let ka = known_time(source, row, N);
-    let kb = known_time(target, row, N);
+    let ka = known_time(source, row, w);
+    let kb = known_time(target, row, w);
     Ahead {
         source: ka.ahead(kb, N),
         target: kb.ahead(ka, N),

@@ -1,10 +1,6 @@
 -- The head, and then row by row: up to `row` the rows are written.
 use Rattle.widen.proofs.Wider.{Upto}
-use Prim.Native.Nat.{◌-◌}
 use Rattle.widen.proofs.widen_table.Given as goal
 
 abbrev pub invariant-loop-row : goal.invariant-loop-row
 invariant-loop-row l = Upto l.t l.wider l.rows l.row
-
-abbrev pub decreases-loop-row : goal.decreases-loop-row
-decreases-loop-row l = l.rows - l.row

@@ -55,7 +55,7 @@ overflow_add-end g c = omega (arith, room g (goal.at.overflow_add-end g c).Start
 
 pub known_time-known-requires : goal.known_time-known-requires
 known_time-known-requires g c =
-    let s = (goal.at.known_time-known-requires g c).Start in (omega arith, record { t_value = (both g s).source; row_bound = (both g s).in_source })
+    let s = (goal.at.known_time-known-requires g c).Start in (omega arith, ((both g s).source, (both g s).in_source))
 
 pub bounds-target-0 : goal.bounds-target-0
 bounds-target-0 g c = omega (arith, room g (goal.at.bounds-target-0 g c).Start)
@@ -80,10 +80,10 @@ unfolding table_of
 settle_row-ticked-requires g c =
     let s = (goal.at.settle_row-ticked-requires g c).Start in (
       omega arith,
-      record {
-        rows = (simp (length-take, length-drop) (omega (arith, room g s)), simp (length-take, length-drop) (omega (arith, room g s)));
-        device_lt_columns = ((check_facts g.row.N _ (both g s).target).head.device, omega (arith, (fits g s).room, c.slice_known-3-1.given 1));
-      },
+      (
+        (simp (length-take, length-drop) (omega (arith, room g s)), simp (length-take, length-drop) (omega (arith, room g s))),
+        ((check_facts g.row.N _ (both g s).target).head.device, omega (arith, (fits g s).room, c.slice_known-3-1.given 1)),
+      ),
     )
 
 pub bounds-target-1-2 : goal.bounds-target-1-2

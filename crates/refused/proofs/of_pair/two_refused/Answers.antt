@@ -70,7 +70,7 @@ returns-then-a-b g c =
     ∙ eq-eqb _ _ c.if-a-b.true)) ∙ two_checked _ _ _ _ c.requires
 
 pub names_later-requires : goal.names_later-requires
-names_later-requires g c = (c.requires.0, clock_device _ _ c.requires.1 _ (clock_b g (goal.at.names_later-requires g c).After-clock_of-b), c.args.w.few)
+names_later-requires g c = (omega arith, (c.requires.0, clock_device _ _ c.requires.1 _ (clock_b g (goal.at.names_later-requires g c).After-clock_of-b)))
 
 pub returns-then-names_later : goal.returns-then-names_later
 unfolding unlike
@@ -79,7 +79,7 @@ returns-then-names_later g c =
     ∙ first_met 5 _ (six g (goal.at.returns-then-names_later g c).After-names_later ∙ c.if-names_later.true)) ∙ two_checked _ _ _ _ c.requires
 
 pub names_later-requires-2 : goal.names_later-requires-2
-names_later-requires-2 g c = (c.requires.1, clock_device _ _ c.requires.0 _ (clock_a g (goal.at.names_later-requires-2 g c).After-clock_of-a), c.args.w.few)
+names_later-requires-2 g c = (omega arith, (c.requires.1, clock_device _ _ c.requires.0 _ (clock_a g (goal.at.names_later-requires-2 g c).After-clock_of-a)))
 
 pub returns-then-names_later-2 : goal.returns-then-names_later-2
 unfolding unlike

@@ -1,5 +1,6 @@
 -- The two known times, each over the other.
 use mathlib.Core.Path.{ap₂, ◌∙◌}
+use native.Mathlib.Omega.{arith}
 use Prim.Native.Nat.{ℕ}
 use Rattle.laws.proofs.Calls.{AheadAccepted, ahead_accepted}
 use Rattle.two.proofs.TwoTables.{Paired, paired}
@@ -17,11 +18,11 @@ two g c = paired _ _ _ _ (ok g c).two
 
 pub known_time-ka-requires : goal.known_time-ka-requires
 known_time-ka-requires g c =
-    let s = (goal.at.known_time-ka-requires g c).Start in record { t_value = ((two g s).source, c.args.w.few); row_bound = (two g s).in_source }
+    let s = (goal.at.known_time-ka-requires g c).Start in (omega arith, ((two g s).source, (two g s).in_source))
 
 pub known_time-kb-requires : goal.known_time-kb-requires
 known_time-kb-requires g c =
-    let s = (goal.at.known_time-kb-requires g c).Start in record { t_value = ((two g s).target, c.args.w.few); row_bound = (two g s).in_target }
+    let s = (goal.at.known_time-kb-requires g c).Start in (omega arith, ((two g s).target, (two g s).in_target))
 
 pub returns : goal.returns
 returns g c =

@@ -1,129 +1,126 @@
 // The limits: rows of either width, levels and the counter.
-use crate::line::{answer, character, one_of};
-use crate::step::{CHANGE, CREATE};
-use paper::{Answer, Content};
-use std::io;
+ghost use Rattle.std.specs.Prelude.{◌<◌};
+
+use crate::act::Act;
+use crate::calls;
+use crate::line::Said;
+use crate::tables::{SHEET, TWO_ROWS, put};
+use paper::Content;
+use std::{fmt, io};
+use vector::head::Head;
 use vector::row::{Narrow, Row, Wide};
 
-// A table of two rows.
-type Small = [u32; 3 * Narrow::WIDTH];
-
-// An answer on a line of its own, after what it answers.
-fn said(rt: &impl Print, line: u32, a: Answer) -> io::Result<()> {
-    one_of(
-        rt,
-        "new, 256 rows/check, 256 rows/new, 257 rows/check, 257 rows/\
-          new, 256 wide rows/check, 256 wide rows/new, 257 wide rows/check, 257 wide rows/\
-          new, 16 levels/check, 16 levels/new, 17 levels/check, 17 levels/\
-          new, 2 rows/create at 4294967294/change at 4294967295/check afterwards/",
-        line,
-    )?;
-    answer(rt, a)?;
-    character(rt, '\n')
+// What a table may not have more of.
+#[derive(Clone, Copy)]
+enum Limit {
+    Rows,
+    WideRows,
+    Levels,
 }
 
-// A new table with so many columns, and the check of it. Where it is refused the table is as it was: laid by hand beforehand.
-fn limit(
-    rt: &impl Print,
-    new: u32,
-    check: u32,
-    columns: u32,
-    plan: &[u32],
-    table: &mut [u32],
-) -> io::Result<()> {
-    said(rt, new, kettleflock::new(columns, 0, plan, table))?;
-    said(rt, check, kettleflock::check(table))
-}
-
-// A table of 257 rows, laid by hand: a root with sheets.
-fn many() -> [u32; 258 * Narrow::WIDTH] {
-    let mut table = [0u32; 258 * Narrow::WIDTH];
-    table[2] = 257;
-    table[Narrow::WIDTH] = 3;
-    table[Narrow::WIDTH + Row::SIZE] = 257;
-    for i in 2..258usize {
-        table[i * Narrow::WIDTH + Row::SIZE] = 1;
+impl Limit {
+    fn columns(self) -> u32 {
+        match self {
+            Limit::Rows | Limit::Levels => 8,
+            Limit::WideRows => 16,
+        }
     }
-    table
+
+    // The words of a row.
+    fn width(self) -> usize
+        ensures { 0 < result }
+    {
+        match self {
+            Limit::Rows | Limit::Levels => Narrow::WIDTH,
+            Limit::WideRows => Wide::WIDTH,
+        }
+    }
+
+    // What the head's word of the width says.
+    fn sign(self) -> u32 {
+        match self {
+            Limit::Rows | Limit::Levels => 0,
+            Limit::WideRows => 16,
+        }
+    }
 }
 
-// The same with sixteen columns.
-fn many_wide() -> [u32; 258 * Wide::WIDTH] {
-    let mut table = [0u32; 258 * Wide::WIDTH];
-    table[2] = 257;
-    table[3] = 16;
-    table[Wide::WIDTH] = 3;
-    table[Wide::WIDTH + Row::SIZE] = 257;
-    for i in 2..258usize {
-        table[i * Wide::WIDTH + Row::SIZE] = 1;
+impl fmt::Display for Limit {
+    fn fmt<W: fmt::Write>(&self, f: &mut fmt::Formatter<W>) -> fmt::Result {
+        f.write_str(match self {
+            Limit::Rows => "rows",
+            Limit::WideRows => "wide rows",
+            Limit::Levels => "levels",
+        })
     }
-    table
+}
+
+pub fn all(rt: &impl Print) -> io::Result<()> {
+    rows(rt)?;
+    rows_beyond(rt)?;
+    levels(rt)?;
+    counter(rt)
+}
+
+// A new table and the check of it. Where it is refused the table is as it was: laid by hand beforehand.
+fn made(rt: &impl Print, limit: Limit, plan: &[u32], table: &mut [u32]) -> io::Result<()> {
+    let reached = plan.len();
+    let new = Said(calls::new(limit.columns(), 0, plan, table));
+    println!(rt; "new, {reached} {limit}: {new}")?;
+    println!(rt; "check, {reached} {limit}: {}", Said(calls::check(table)))
+}
+
+// The table of a plan laid by hand in words of 0, with as many rows as its root spans.
+fn lay(limit: Limit, plan: &[u32], table: &mut [u32]) {
+    for (row, size) in table.chunks_mut(limit.width()).skip(1).zip(plan) {
+        if *size != 0 {
+            put(row, Row::KIND, Row::FOLDER);
+        }
+        put(row, Row::SIZE, *size.max(&1));
+    }
+    put(table, Head::ROWS, plan.first().copied().unwrap_or(0));
+    put(table, Head::SIGN, limit.sign());
+}
+
+// A table beyond a limit.
+fn beyond(rt: &impl Print, limit: Limit, plan: &[u32], table: &mut [u32]) -> io::Result<()> {
+    lay(limit, plan, table);
+    made(rt, limit, plan, table)
 }
 
 // 256 rows pass.
-pub fn rows(rt: &impl Print) -> io::Result<()> {
-    let mut plan = [0u32; 256];
+fn rows(rt: &impl Print) -> io::Result<()> {
+    let mut plan = [0; 256];
     plan[0] = 256;
-    let mut narrow = [9u32; 257 * Narrow::WIDTH];
-    limit(rt, 0, 1, 8, &plan, &mut narrow)?;
-    let mut wide = [9u32; 257 * Wide::WIDTH];
-    limit(rt, 4, 5, 16, &plan, &mut wide)
+    made(rt, Limit::Rows, &plan, &mut [9; 257 * Narrow::WIDTH])?;
+    made(rt, Limit::WideRows, &plan, &mut [9; 257 * Wide::WIDTH])
 }
 
 // 257 do not.
-pub fn rows_beyond(rt: &impl Print) -> io::Result<()> {
-    let mut plan = [0u32; 257];
+fn rows_beyond(rt: &impl Print) -> io::Result<()> {
+    let mut plan = [0; 257];
     plan[0] = 257;
-    let mut narrow = many();
-    limit(rt, 2, 3, 8, &plan, &mut narrow)?;
-    let mut wide = many_wide();
-    limit(rt, 6, 7, 16, &plan, &mut wide)
+    beyond(rt, Limit::Rows, &plan, &mut [0; 258 * Narrow::WIDTH])?;
+    beyond(rt, Limit::WideRows, &plan, &mut [0; 258 * Wide::WIDTH])
 }
 
-// A table of 17 levels, laid by hand: each row a folder in the one before.
-fn deep() -> [u32; 18 * Narrow::WIDTH] {
-    let mut table = [0u32; 18 * Narrow::WIDTH];
-    table[2] = 17;
-    for i in 1..18usize {
-        table[i * Narrow::WIDTH] = 3;
-        table[i * Narrow::WIDTH + Row::SIZE] = (18 - i) as u32;
-    }
-    table
-}
-
-// 16 levels pass, 17 do not.
-pub fn levels(rt: &impl Print) -> io::Result<()> {
-    let plan = [16u32, 15, 14, 13, 12, 11, 10, 9, 8, 7, 6, 5, 4, 3, 2, 1];
-    let mut table = [9u32; 17 * Narrow::WIDTH];
-    limit(rt, 8, 9, 8, &plan, &mut table)?;
-    let more = [17u32, 16, 15, 14, 13, 12, 11, 10, 9, 8, 7, 6, 5, 4, 3, 2, 1];
-    let mut beyond = deep();
-    limit(rt, 10, 11, 8, &more, &mut beyond)
-}
-
-// An event at row 1 of a table of two rows.
-fn counted(
-    rt: &impl Print,
-    line: u32,
-    mut table: Small,
-    event: u32,
-    mark: u32,
-) -> io::Result<Small> {
-    said(
-        rt,
-        line,
-        kettleflock::event(&mut table, 1, event, Content { mark, class: 0 }),
-    )?;
-    Ok(table)
+// 16 levels pass, 17 do not: each row is a folder in the one before.
+fn levels(rt: &impl Print) -> io::Result<()> {
+    let plan = [17, 16, 15, 14, 13, 12, 11, 10, 9, 8, 7, 6, 5, 4, 3, 2, 1];
+    made(rt, Limit::Levels, &plan[1..], &mut [9; 17 * Narrow::WIDTH])?;
+    beyond(rt, Limit::Levels, &plan, &mut [0; 18 * Narrow::WIDTH])
 }
 
 // The counter takes one more event at 4294967294, and then none.
-pub fn counter(rt: &impl Print) -> io::Result<()> {
-    let plan = [2u32, 0];
-    let mut table = [0u32; 3 * Narrow::WIDTH];
-    said(rt, 12, kettleflock::new(8, 7, &plan, &mut table))?;
-    table[1] = 4294967294;
-    let table = counted(rt, 13, table, CREATE, 700)?;
-    let table = counted(rt, 14, table, CHANGE, 701)?;
-    said(rt, 15, kettleflock::check(&table))
+fn counter(rt: &impl Print) -> io::Result<()> {
+    let mut table = [0; TWO_ROWS];
+    let new = Said(calls::new(8, 7, &[2, 0], &mut table));
+    println!(rt; "new, 2 rows: {new}")?;
+    table[Head::COUNTER] = u32::MAX - 1;
+    for (act, mark) in [(Act::Create, 700), (Act::Change, 701)] {
+        let count = table[Head::COUNTER];
+        let answer = calls::event(&mut table, SHEET, act, Content::of(mark, 0));
+        println!(rt; "{act} at {count}: {}", Said(answer))?;
+    }
+    println!(rt; "check afterwards: {}", Said(calls::check(&table)))
 }

@@ -1,146 +1,122 @@
 // Tables of eight columns and of sixteen: made, widened, and passed.
-use crate::line::{answer, character, one_of, words};
-use crate::step::CREATE;
-use kettleflock::passing::pass;
-use paper::{Answer, Content};
+use crate::act::Act;
+use crate::calls;
+use crate::line::{Said, Words};
+use crate::tables::{ROOT, SHEET, TWO_ROWS, Table};
+use paper::Content;
 use std::io;
+use vector::head::Head;
 use vector::row::{Narrow, Row, Wide};
 
-// A table of two rows, narrow and wide.
-type Small = [u32; 3 * Narrow::WIDTH];
+// The words of a wide table of two rows.
+const WIDE_TWO_ROWS: usize = 3 * Wide::WIDTH;
 
-type Large = [u32; 3 * Wide::WIDTH];
+// Where its sheet begins, and where the sheet's floor ends.
+const WIDE_SHEET: usize = 2 * Wide::WIDTH;
 
-// An answer on a line of its own, after what it answers.
-fn said(rt: &impl Print, line: u32, a: Answer) -> io::Result<()> {
-    one_of(
-        rt,
-        "new, 0 columns/new, 7 columns/new, 9 columns/new, 17 columns/\
-          new, 8 columns, device 7/new, 8 columns, device 8/new, 16 columns, device 15/new, 16 columns, device 16/\
-          check, word 3 is 8/check, word 3 is 15/check, word 3 is 16/\
-          widen/check, widened/widen what is wide/widen what is damaged/widen into too little/\
-          narrow to wide/wide to narrow/wide to wide/check, wide/",
-        line,
-    )?;
-    answer(rt, a)?;
-    character(rt, '\n')
+const WIDE_FLOOR_END: usize = WIDE_SHEET + Row::FLOOR + Wide::COLUMNS;
+
+// The plan of both.
+const PLAN: [u32; 2] = [2, 0];
+
+pub fn all(rt: &impl Print) -> io::Result<()> {
+    made(rt)?;
+    signed(rt)?;
+    widened(rt)?;
+    apart(rt)?;
+    passed(rt)
+}
+
+// A narrow table of device 0 with one event.
+fn narrow() -> Table<TWO_ROWS> {
+    let mut table = Table::of_two(0);
+    table.event(SHEET, Act::Create, Content::of(701, 2));
+    table
+}
+
+// A wide table of device 15 with one event.
+fn wide() -> Table<WIDE_TWO_ROWS> {
+    let mut table = Table::new(16, 15, &PLAN);
+    table.event(SHEET, Act::Create, Content::of(700, 1));
+    table
 }
 
 // Words of a table on a line of their own.
-fn row(rt: &impl Print, table: &[u32], from: usize, to: usize) -> io::Result<()> {
-    words(rt, table, from, to)?;
-    character(rt, '\n')
+fn row(rt: &impl Print, words: &[u32]) -> io::Result<()> {
+    println!(rt; "{}", Words(words))
 }
 
 // A new table of a device, with so many columns; what was in the words stays on a refusal.
-fn new(rt: &impl Print, line: u32, columns: u32, device: u32, table: &mut [u32]) -> io::Result<()> {
-    let plan = [2u32, 0];
-    said(rt, line, kettleflock::new(columns, device, &plan, table))
+fn new(rt: &impl Print, columns: u32, device: u32, table: &mut [u32]) -> io::Result<()> {
+    let said = Said(calls::new(columns, device, &PLAN, table));
+    println!(rt; "new, {columns} columns, device {device}: {said}")
 }
 
-// A narrow table of device 0 with one event, and a wide one of device 15.
-fn small() -> Small {
-    let plan = [2u32, 0];
-    let mut table = [9u32; 3 * Narrow::WIDTH];
-    kettleflock::new(8, 0, &plan, &mut table);
-    kettleflock::event(
-        &mut table,
-        1,
-        CREATE,
-        Content {
-            mark: 701,
-            class: 2,
-        },
-    );
-    table
-}
-
-fn large() -> Large {
-    let plan = [2u32, 0];
-    let mut table = [9u32; 3 * Wide::WIDTH];
-    kettleflock::new(16, 15, &plan, &mut table);
-    kettleflock::event(
-        &mut table,
-        1,
-        CREATE,
-        Content {
-            mark: 700,
-            class: 1,
-        },
-    );
-    table
-}
-
-// The narrow one with sixteen columns.
-fn wider() -> Large {
-    let table = small();
-    let mut wider = [9u32; 3 * Wide::WIDTH];
-    kettleflock::widen(&table, &mut wider);
-    wider
+// Eight columns and sixteen there are, and no others; the last device of each.
+fn made(rt: &impl Print) -> io::Result<()> {
+    let mut narrow = [9; TWO_ROWS];
+    for columns in [0, 7, 9, 17] {
+        let said = Said(calls::new(columns, 0, &PLAN, &mut narrow));
+        println!(rt; "new, {columns} columns: {said}")?;
+    }
+    new(rt, 8, 8, &mut narrow)?;
+    row(rt, &narrow[..5])?;
+    new(rt, 8, 7, &mut narrow)?;
+    row(rt, &narrow[..5])?;
+    let mut wide = [9; WIDE_TWO_ROWS];
+    new(rt, 16, 16, &mut wide)?;
+    new(rt, 16, 15, &mut wide)?;
+    row(rt, &wide[..5])
 }
 
 // The check of a narrow table with another word 3.
-fn signed(rt: &impl Print, line: u32, sign: u32) -> io::Result<()> {
-    let mut table = small();
-    table[3] = sign;
-    said(rt, line, kettleflock::check(&table))
-}
-
-// Eight columns and sixteen there are, and no others; the last device of each; word 3 of the head.
-pub fn made(rt: &impl Print) -> io::Result<()> {
-    let mut narrow = [9u32; 3 * Narrow::WIDTH];
-    new(rt, 0, 0, 0, &mut narrow)?;
-    new(rt, 1, 7, 0, &mut narrow)?;
-    new(rt, 2, 9, 0, &mut narrow)?;
-    new(rt, 3, 17, 0, &mut narrow)?;
-    new(rt, 5, 8, 8, &mut narrow)?;
-    row(rt, &narrow, 0, 5)?;
-    new(rt, 4, 8, 7, &mut narrow)?;
-    row(rt, &narrow, 0, 5)?;
-    let mut wide = [9u32; 3 * Wide::WIDTH];
-    new(rt, 7, 16, 16, &mut wide)?;
-    new(rt, 6, 16, 15, &mut wide)?;
-    row(rt, &wide, 0, 5)?;
-    signed(rt, 8, 8)?;
-    signed(rt, 9, 15)?;
-    signed(rt, 10, 16)
+fn signed(rt: &impl Print) -> io::Result<()> {
+    for sign in [8, 15, 16] {
+        let mut table = narrow();
+        table.put(Head::SIGN, sign);
+        println!(rt; "check, word 3 is {sign}: {}", Said(table.check()))?;
+    }
+    Ok(())
 }
 
 // A table widened: its head, and its sheet up to the end of the floor.
-pub fn widened(rt: &impl Print) -> io::Result<()> {
-    let mut table = small();
-    let mut into = [9u32; 3 * Wide::WIDTH];
-    let mut little = [9u32; 2 * Wide::WIDTH];
-    said(rt, 15, kettleflock::widen(&table, &mut little))?;
-    said(rt, 11, kettleflock::widen(&table, &mut into))?;
-    said(rt, 12, kettleflock::check(&into))?;
-    row(rt, &into, 0, 5)?;
-    row(rt, &into, 2 * Wide::WIDTH, 2 * Wide::WIDTH + Wide::NEWEST)?;
-    table[Narrow::WIDTH + Row::MARK] = 1;
-    said(rt, 14, kettleflock::widen(&table, &mut into))?;
-    let wide = large();
-    said(rt, 13, kettleflock::widen(&wide, &mut into))
+fn widened(rt: &impl Print) -> io::Result<()> {
+    let mut table = narrow();
+    let mut wider = [9; WIDE_TWO_ROWS];
+    let said = Said(calls::widen(&table.words, &mut [9; 2 * Wide::WIDTH]));
+    println!(rt; "widen into too little: {said}")?;
+    let said = Said(calls::widen(&table.words, &mut wider));
+    println!(rt; "widen: {said}")?;
+    println!(rt; "check, widened: {}", Said(calls::check(&wider)))?;
+    row(rt, &wider[..5])?;
+    row(rt, &wider[WIDE_SHEET..WIDE_FLOOR_END])?;
+    table.put(Narrow::WIDTH + Row::MARK, 1);
+    let said = Said(calls::widen(&table.words, &mut wider));
+    println!(rt; "widen what is damaged: {said}")?;
+    let said = Said(calls::widen(&wide().words, &mut wider));
+    println!(rt; "widen what is wide: {said}")
 }
 
 // No pass from one width to the other.
-pub fn apart(rt: &impl Print) -> io::Result<()> {
-    let mut answers = [9u32; 2];
-    let narrow = small();
-    let mut target = large();
-    said(rt, 16, pass(&narrow, &mut target, 0, &mut answers))?;
-    let wide = large();
-    let mut target = small();
-    said(rt, 17, pass(&wide, &mut target, 0, &mut answers))?;
-    row(rt, &answers, 0, 2)
+fn apart(rt: &impl Print) -> io::Result<()> {
+    let mut answers = [9; 2];
+    let said = Said(calls::pass(&narrow().words, &mut wide().words, ROOT, &mut answers));
+    println!(rt; "narrow to wide: {said}")?;
+    let said = Said(calls::pass(&wide().words, &mut narrow().words, ROOT, &mut answers));
+    println!(rt; "wide to narrow: {said}")?;
+    row(rt, &answers)
 }
 
 // A pass between wide tables, of which one was narrow.
-pub fn passed(rt: &impl Print) -> io::Result<()> {
-    let source = wider();
-    let mut target = large();
-    let mut answers = [9u32; 2];
-    said(rt, 18, pass(&source, &mut target, 0, &mut answers))?;
-    row(rt, &answers, 0, 2)?;
-    said(rt, 19, kettleflock::check(&target))?;
-    row(rt, &target, 2 * Wide::WIDTH, 2 * Wide::WIDTH + Wide::NEWEST)
+fn passed(rt: &impl Print) -> io::Result<()> {
+    let mut wider = [9; WIDE_TWO_ROWS];
+    calls::widen(&narrow().words, &mut wider);
+    let source = Table { words: wider };
+    let mut target = wide();
+    let mut answers = [9; 2];
+    let said = Said(target.pass(&source, ROOT, &mut answers));
+    println!(rt; "wide to wide: {said}")?;
+    row(rt, &answers)?;
+    println!(rt; "check, wide: {}", Said(target.check()))?;
+    row(rt, &target.words[WIDE_SHEET..WIDE_FLOOR_END])
 }

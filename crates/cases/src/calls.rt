@@ -1,7 +1,10 @@
 // The calls of the library. No other module names it.
 use crate::act::{Act, Choice};
 use kettleflock::{passing, settling, showing};
-use paper::{Answer, Content, Masks};
+use paper::{Ahead, Content, Refusal, Side};
+
+// What a call tells: its count, or why it does nothing.
+pub type Told = Result<u32, Refusal>;
 
 impl Act {
     // Its number in a call.
@@ -26,24 +29,24 @@ impl Choice {
     }
 }
 
-pub fn new(columns: u32, device: u32, plan: &[u32], table: &mut [u32]) -> Answer {
-    Answer::from(kettleflock::new(columns, device, plan, table))
+pub fn new(columns: u32, device: u32, plan: &[u32], table: &mut [u32]) -> Told {
+    kettleflock::new(columns, device, plan, table)
 }
 
-pub fn check(table: &[u32]) -> Answer {
-    Answer::from(kettleflock::check(table))
+pub fn check(table: &[u32]) -> Told {
+    kettleflock::check(table)
 }
 
-pub fn widen(table: &[u32], wider: &mut [u32]) -> Answer {
-    Answer::from(kettleflock::widen(table, wider))
+pub fn widen(table: &[u32], wider: &mut [u32]) -> Told {
+    kettleflock::widen(table, wider)
 }
 
-pub fn event(table: &mut [u32], row: u32, act: Act, content: Content) -> Answer {
-    Answer::from(kettleflock::event(table, row, act.number(), content))
+pub fn event(table: &mut [u32], row: u32, act: Act, content: Content) -> Told {
+    kettleflock::event(table, row, act.number(), content)
 }
 
-pub fn pass(source: &[u32], target: &mut [u32], row: u32, answers: &mut [u32]) -> Answer {
-    Answer::from(passing::pass(source, target, row, answers))
+pub fn pass(source: &[u32], target: &mut [u32], row: u32, answers: &mut [u32]) -> Told {
+    passing::pass(source, target, row, answers)
 }
 
 pub fn settle(
@@ -52,12 +55,12 @@ pub fn settle(
     row: u32,
     choice: Choice,
     content: Content,
-) -> Answer {
-    Answer::from(settling::settle(source, target, row, choice.number(), content))
+) -> Told {
+    settling::settle(source, target, row, choice.number(), content)
 }
 
-pub fn ahead(source: &[u32], target: &[u32], row: u32) -> Masks {
-    Masks::from(settling::ahead(source, target, row))
+pub fn ahead(source: &[u32], target: &[u32], row: u32) -> Result<Ahead, Refusal> {
+    settling::ahead(source, target, row)
 }
 
 // The rows beneath a folder.
@@ -65,8 +68,8 @@ pub fn beneath(table: &[u32], row: u32) -> &[u32] {
     showing::beneath(table, row)
 }
 
-pub fn beneath_answer(table: &[u32], row: u32) -> Answer {
-    Answer::from(showing::beneath_answer(table, row))
+pub fn beneath_answer(table: &[u32], row: u32) -> Told {
+    showing::beneath_answer(table, row)
 }
 
 // The row that stands, in the table that it lies in.
@@ -74,14 +77,11 @@ pub fn standing<'a>(source: &'a [u32], target: &'a [u32], row: u32) -> &'a [u32]
     showing::standing(source, target, row)
 }
 
-pub fn standing_answer(source: &[u32], target: &[u32], row: u32) -> Answer {
-    Answer::from(showing::standing_answer(source, target, row))
+pub fn standing_answer(source: &[u32], target: &[u32], row: u32) -> Told {
+    showing::standing_answer(source, target, row)
 }
 
-// The number of that table, 1 the source's and 2 the target's.
-pub fn standing_side(source: &[u32], target: &[u32], row: u32) -> u32 {
-    match showing::standing_side(source, target, row) {
-        Some(side) => u32::from(side),
-        None => 0,
-    }
+// In which of the two it lies.
+pub fn standing_side(source: &[u32], target: &[u32], row: u32) -> Option<Side> {
+    showing::standing_side(source, target, row)
 }

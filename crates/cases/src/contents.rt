@@ -1,8 +1,9 @@
 // What a live sheet holds: the class of duty goes with the mark; a class above 9 is refused, and mark 0. Row 1 of a table of two rows.
 use crate::act::{Act, Choice};
+use crate::calls::Told;
 use crate::line::{Said, Words};
 use crate::tables::{Part, ROOT, SHEET, SHEET_START, TWO_ROWS, Table};
-use paper::{Answer, Content};
+use paper::Content;
 use std::{fmt, io};
 use vector::row::Row;
 
@@ -38,7 +39,7 @@ pub fn all(rt: &impl Print) -> io::Result<()> {
 }
 
 // The answer of a call, and the sheet's kind to its class afterwards.
-fn shown(rt: &impl Print, step: Step, answer: Answer, table: &Table<TWO_ROWS>) -> io::Result<()> {
+fn shown(rt: &impl Print, step: Step, answer: Told, table: &Table<TWO_ROWS>) -> io::Result<()> {
     let sheet = Words(table.part(SHEET, Part::Row));
     println!(rt; "{step}: {},{sheet}", Said(answer))
 }

@@ -1,7 +1,7 @@
 // The steps of a case, each a call and a line with its answer.
 use crate::act::{Act, Choice};
 use crate::calls;
-use crate::line::{Said, Words};
+use crate::line::{Masks, Said, Words};
 use crate::tables::{FIVE_ROWS, Part, ROOT, Table};
 use paper::Content;
 use std::{fmt, io};
@@ -139,8 +139,8 @@ impl<'a, R: Print> Play<'a, R> {
         let masks = calls::ahead(&source.words, &target.words, row);
         let (case, from, to) = (self.case, source.device(), target.device());
         println!(self.rt;
-            "{case} {from} to {to} asked at row {row}: {}, masks {} {}",
-            masks.number, masks.source, masks.target
+            "{case} {from} to {to} asked at row {row}: {}",
+            Masks(masks)
         )
     }
 

@@ -1,7 +1,8 @@
 // A table of a device in words of its own, and the parts of its rows.
 use crate::act::{Act, Choice};
 use crate::calls;
-use paper::{Answer, Content};
+use crate::calls::Told;
+use paper::Content;
 use std::fmt;
 use vector::head::Head;
 use vector::row::{Narrow, Row};
@@ -84,25 +85,25 @@ impl<const WORDS: usize> Table<WORDS> {
     // A new table of a device. It holds 9s beforehand: a word that is not written shows.
     pub fn new(columns: u32, device: u32, plan: &[u32]) -> Self {
         let mut words = [9; WORDS];
-        calls::new(columns, device, plan, &mut words);
+        let _ = calls::new(columns, device, plan, &mut words);
         Table { words }
     }
 
-    pub fn event(&mut self, row: u32, act: Act, content: Content) -> Answer {
+    pub fn event(&mut self, row: u32, act: Act, content: Content) -> Told {
         calls::event(&mut self.words, row, act, content)
     }
 
     // What a source passes to it.
-    pub fn pass(&mut self, source: &Self, row: u32, answers: &mut [u32]) -> Answer {
+    pub fn pass(&mut self, source: &Self, row: u32, answers: &mut [u32]) -> Told {
         calls::pass(&source.words, &mut self.words, row, answers)
     }
 
     // Its conflict with a source settled.
-    pub fn settle(&mut self, source: &Self, row: u32, choice: Choice, content: Content) -> Answer {
+    pub fn settle(&mut self, source: &Self, row: u32, choice: Choice, content: Content) -> Told {
         calls::settle(&source.words, &mut self.words, row, choice, content)
     }
 
-    pub fn check(&self) -> Answer {
+    pub fn check(&self) -> Told {
         calls::check(&self.words)
     }
 

@@ -30,14 +30,14 @@ pub fn all(rt: &impl Print) -> io::Result<()> {
 // A narrow table of device 0 with one event.
 fn narrow() -> Table<TWO_ROWS> {
     let mut table = Table::of_two(0);
-    table.event(SHEET, Act::Create, Content::of(701, 2));
+    let _ = table.event(SHEET, Act::Create, Content::of(701, 2));
     table
 }
 
 // A wide table of device 15 with one event.
 fn wide() -> Table<WIDE_TWO_ROWS> {
     let mut table = Table::new(16, 15, &PLAN);
-    table.event(SHEET, Act::Create, Content::of(700, 1));
+    let _ = table.event(SHEET, Act::Create, Content::of(700, 1));
     table
 }
 
@@ -110,7 +110,7 @@ fn apart(rt: &impl Print) -> io::Result<()> {
 // A pass between wide tables, of which one was narrow.
 fn passed(rt: &impl Print) -> io::Result<()> {
     let mut wider = [9; WIDE_TWO_ROWS];
-    calls::widen(&narrow().words, &mut wider);
+    let _ = calls::widen(&narrow().words, &mut wider);
     let source = Table { words: wider };
     let mut target = wide();
     let mut answers = [9; 2];

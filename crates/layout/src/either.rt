@@ -20,9 +20,9 @@ pub fn sheet_fits(r: &[u32], above: Above, columns: usize) -> bool
     ensures { result ≡ sheet_fits columns above.clock (vec above.floors.0) r.now }
 {
     if columns == Narrow::COLUMNS {
-        return crate::sheet_fits(r, above, Width::narrow());
+        return crate::sheet_fits(r, above, Width::<8>::of());
     }
-    crate::sheet_fits(r, above, Width::wide())
+    crate::sheet_fits(r, above, Width::<16>::of())
 }
 
 // A folder's row fits, whose children come to `under`.
@@ -32,7 +32,7 @@ pub fn folder_fits(r: &[u32], clock: Clock, under: Option<Summary>, columns: usi
     ensures { result ≡ folder_by columns clock r.now (said under) }
 {
     if columns == Narrow::COLUMNS {
-        return crate::folder_fits(r, clock, under, Width::narrow());
+        return crate::folder_fits(r, clock, under, Width::<8>::of());
     }
-    crate::folder_fits(r, clock, under, Width::wide())
+    crate::folder_fits(r, clock, under, Width::<16>::of())
 }

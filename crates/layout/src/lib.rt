@@ -114,7 +114,7 @@ fn is_covered<const N: usize>(r: &[u32], above: Above, stamp: Stamp, w: Width<N>
 // The stamps of a row that is laid out as its kind says are covered by its known time under what is above.
 #[tactic(auto, unfolding(paper::specs::Check::known, paper::specs::Words::row_of, paper::specs::Words::kind_of))]
 fn is_known<const N: usize>(r: &[u32], above: Above, w: Width<N>) -> bool
-    requires { (wide N ≤ length r.now) × (laid N (row_of r.now).kind (row_of r.now) ≡ true) }
+    requires { (wide N ≤ length r.now) × (laid N (row_of r.now).kind (row_of r.now) ≡ true) × (0 < N) }
     ensures { result ≡ known (full above.clock (vec above.floors.0) (floor_of N r.now)) (row_of r.now).kind (row_of r.now) }
 {
     let stamp = stamp_of(r);

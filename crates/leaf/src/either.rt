@@ -17,9 +17,9 @@ pub fn pass_sheet(s: &[u32], t: &mut [u32], a: Above, b: Above, columns: usize) 
     ensures { SheetDone columns a.clock b.clock (vec a.floors.0) (vec b.floors.0) s.now t.old result t.new }
 {
     if columns == Narrow::COLUMNS {
-        return single::pass_sheet(s, t, a, b, Width::narrow());
+        return single::pass_sheet(s, t, a, b, Width::<8>::of());
     }
-    single::pass_sheet(s, t, a, b, Width::wide())
+    single::pass_sheet(s, t, a, b, Width::<16>::of())
 }
 
 // Is the folder passed over, by the summaries in its rows?
@@ -29,9 +29,9 @@ pub fn may_pass_over(s: &[u32], t: &[u32], a: Above, b: Above, columns: usize) -
     ensures { result ≡ over_rows columns a.clock b.clock (vec a.floors.0) (vec b.floors.0) s.now t.now }
 {
     if columns == Narrow::COLUMNS {
-        return folder::may_pass_over(s, t, a, b, Width::narrow());
+        return folder::may_pass_over(s, t, a, b, Width::<8>::of());
     }
-    folder::may_pass_over(s, t, a, b, Width::wide())
+    folder::may_pass_over(s, t, a, b, Width::<16>::of())
 }
 
 // A folder that is passed over, with the answers for it and for all beneath it.
@@ -41,8 +41,8 @@ pub fn over_row(s: &[u32], t: &mut [u32], answers: &mut [u32], a: Above, b: Abov
     ensures { OverDone columns a.clock b.clock (vec a.floors.0) s.now t.old t.new answers.old answers.new }
 {
     if columns == Narrow::COLUMNS {
-        folder::over_row(s, t, answers, a, b, Width::narrow());
+        folder::over_row(s, t, answers, a, b, Width::<8>::of());
         return;
     }
-    folder::over_row(s, t, answers, a, b, Width::wide());
+    folder::over_row(s, t, answers, a, b, Width::<16>::of());
 }

@@ -3,6 +3,7 @@
 #![tactic(auto)]
 
 ghost use Rattle.std.specs.Prelude.{◌≡◌};
+ghost use Rattle.paper.specs.Widths;
 ghost use Rattle.paper.specs.Calls.{passed, done, pass_refused, pass_of};
 
 use known::above_row;
@@ -21,7 +22,7 @@ pub fn make_pass<const N: usize>(
     answers: &mut [u32],
     w: Width<N>,
 ) -> u32
-    requires { pass_refused N source.now target.old row answers.old ≡ 0 }
+    requires { (pass_refused N source.now target.old row answers.old ≡ 0) × Widths.Width N }
     ensures { passed (done result) target.new answers.new ≡ pass_of N source.now target.old row answers.old }
 {
     let a = clock_of(source);

@@ -16,9 +16,9 @@ pub fn of_rows(t: &[u32], columns: usize) -> Option<Summary>
     ensures { said result ≡ stored columns (forest_of (wide columns) t.now) }
 {
     if columns == Narrow::COLUMNS {
-        return Summary::of_rows(t, Width::narrow());
+        return Summary::of_rows(t, Width::<8>::of());
     }
-    Summary::of_rows(t, Width::wide())
+    Summary::of_rows(t, Width::<16>::of())
 }
 
 // Puts the summaries of a folder right, by the rows of its children: all that stands after its own row.
@@ -28,8 +28,8 @@ pub fn mend_folder(t: &mut [u32], columns: usize)
     ensures { t.new ≡ mended columns (stored columns (forest_of (wide columns) (drop (wide columns) t.old))) t.old }
 {
     if columns == Narrow::COLUMNS {
-        Summary::mend_folder(t, Width::narrow());
+        Summary::mend_folder(t, Width::<8>::of());
         return;
     }
-    Summary::mend_folder(t, Width::wide());
+    Summary::mend_folder(t, Width::<16>::of());
 }

@@ -5,7 +5,6 @@ use native.Mathlib.Omega.{arith}
 use lib.ListN.{length-set, length-take, length-drop}
 use Rattle.paper.specs.Words.{table_of}
 use Rattle.paper.specs.Calls.{event_named, event_done}
-use Rattle.vector.proofs.Wideness.{is_width}
 use Rattle.paper.specs.Named.{event_number}
 use Rattle.order.proofs.RowPlaces.{Begins, begins}
 use Rattle.mend.proofs.PutInPlace.{Changed, siblings, same_long}
@@ -19,7 +18,7 @@ few : (g : Over) (c : Start g) → g.row.N ≤ 16
 few g c = c.args.w.few
 
 fits : (g : Over) (c : Start g) → EventFits g.row.N c.args.t.now c.args.row (event_number c.args.event)
-fits g c = event_facts g.row.N _ _ _ _ c.requires
+fits g c = event_facts g.row.N _ _ _ _ c.requires.0
 
 room : (g : Over) (c : Start g) → Room g.row.N c.args.t.now c.args.row
 room g c = event_room g.row.N _ _ _ (fits g c)
@@ -87,7 +86,7 @@ slice_bounds-mend_above-start g c = (done g (goal.at.slice_bounds-mend_above-sta
 
 pub mend_above-requires : goal.mend_above-requires
 mend_above-requires g c =
-    let w = (goal.at.mend_above-requires g c).After-write_event in let y = siblings (done g w) in record { siblings = y.0; columns_in_bounds = (y.1, is_width _ c.args.w.is) }
+    let w = (goal.at.mend_above-requires g c).After-write_event in let y = siblings (done g w) in record { siblings = y.0; columns_in_bounds = (y.1, c.requires.1) }
 
 pub shape_of-t : goal.shape_of-t
 shape_of-t g c = let w = (goal.at.shape_of-t g c).After-write_event in same_long (done g w) c.mend_above.new.t c.mend_above.auto.t

@@ -6,7 +6,7 @@ use Rattle.layout.proofs.is_known.Goals as goal
 
 pub is_covered-requires : goal.is_covered-requires
 is_covered-requires g c =
-    (omega arith, (c.requires.0, omega (arith, ap (λ z. z.device) c.stamp_of-stamp.ensures, stamp_column g.row.N c.args.r.now c.requires.1 c.args.w.some)))
+    (omega arith, (c.requires.0, omega (arith, ap (λ z. z.device) c.stamp_of-stamp.ensures, stamp_column g.row.N c.args.r.now c.requires.1 c.requires.2)))
 
 pub is_covered-requires-then-is_covered : goal.is_covered-requires-then-is_covered
 is_covered-requires-then-is_covered g c =
@@ -14,4 +14,4 @@ is_covered-requires-then-is_covered g c =
 
 pub is_covered-requires-in-2 : goal.is_covered-requires-in-2
 is_covered-requires-in-2 g c =
-    (omega arith, (c.requires.0, omega (arith, ap (λ z. z.device) c.stamp_of-stamp.ensures, stamp_column g.row.N c.args.r.now c.requires.1 c.args.w.some)))
+    (omega arith, (c.requires.0, omega (arith, ap (λ z. z.device) c.stamp_of-stamp.ensures, stamp_column g.row.N c.args.r.now c.requires.1 c.requires.2)))

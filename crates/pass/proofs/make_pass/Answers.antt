@@ -6,7 +6,6 @@ use borrow.Rule.Slice.PartMut.{put_mid}
 use Rattle.paper.specs.Columns.{vec}
 use Rattle.paper.specs.Words.{wide, Table, table_of}
 use Rattle.paper.specs.Devices.{devices}
-use Rattle.vector.proofs.Wideness.{is_width}
 use Rattle.paper.specs.Calls.{pass_done}
 use Rattle.walk.specs.Parts.{Passed}
 use Rattle.mend.proofs.PutInPlace.{Changed, siblings, same_long}
@@ -16,7 +15,7 @@ use Rattle.pass.proofs.make_pass.Given.{Over}
 use Rattle.pass.proofs.make_pass.Goals.{After-above_row-ua, After-above_row-ub, After-clock_of-a, After-clock_of-b, After-pass_row-looked, Start}
 
 room : (g : Over) (c : Start g) → Room (wide g.row.N) c.args.source.now c.args.target.now c.args.row (length c.args.answers.now)
-room g c = pass_room g.row.N _ _ _ _ c.requires
+room g c = pass_room g.row.N _ _ _ _ c.requires.0
 
 few : (g : Over) (c : Start g) → g.row.N ≤ devices
 few g c = c.args.w.few
@@ -39,11 +38,11 @@ begun g c =
 -- the rows walked
 walked : (g : Over) (c : After-pass_row-looked g)
     → let s = (goal.at.After-pass_row-looked g c).Start in let back = c.pass_row-looked.new in
-    Passed g.row.N c.clock_of-a.result c.clock_of-b.result (both g.row.N _ _ _ _ s.requires) (vec c.above_row-ua.result.0)
+    Passed g.row.N c.clock_of-a.result c.clock_of-b.result (both g.row.N _ _ _ _ s.requires.0) (vec c.above_row-ua.result.0)
     (vec c.above_row-ub.result.0) back.target back.answers c.pass_row-looked.result
 walked g c =
     let w = g.row.N in
-    let e = c.requires in
+    let e = c.requires.0 in
     c.pass_row-looked.ensures (both w _ _ _ _ e) (single_both w _ _ _ _ e) (pass_fits w _ _ _ _ e (begun g (goal.at.After-pass_row-looked g c).After-above_row-ub))
 
 done : (g : Over) (c : After-pass_row-looked g)
@@ -51,7 +50,7 @@ done : (g : Over) (c : After-pass_row-looked g)
     let from = (s.args.row + 1) * wide w in
     Changed w s.args.target.now (put_mid from (from + length s.args.answers.now * wide w - from) s.args.target.now c.pass_row-looked.new.target) s.args.row
     (pass_done w (a g s) (b g s) s.args.row)
-done g c = pass_changed g.row.N _ _ _ _ c.requires (begun g (goal.at.After-pass_row-looked g c).After-above_row-ub) (walked g c)
+done g c = pass_changed g.row.N _ _ _ _ c.requires.0 (begun g (goal.at.After-pass_row-looked g c).After-above_row-ub) (walked g c)
 
 pub clock_of-a-requires : goal.clock_of-a-requires
 clock_of-a-requires g c = omega (arith, room g (goal.at.clock_of-a-requires g c).Start)
@@ -61,11 +60,11 @@ clock_of-b-requires g c = omega (arith, room g (goal.at.clock_of-b-requires g c)
 
 pub above_row-ua-requires : goal.above_row-ua-requires
 above_row-ua-requires g c =
-    let s = (goal.at.above_row-ua-requires g c).Start in let p = accepted g.row.N _ _ _ _ c.requires in (omega arith, (p.source, p.in_source))
+    let s = (goal.at.above_row-ua-requires g c).Start in let p = accepted g.row.N _ _ _ _ c.requires.0 in (omega arith, (p.source, p.in_source))
 
 pub above_row-ub-requires : goal.above_row-ub-requires
 above_row-ub-requires g c =
-    let s = (goal.at.above_row-ub-requires g c).Start in let p = accepted g.row.N _ _ _ _ c.requires in (omega arith, (p.target, p.in_target))
+    let s = (goal.at.above_row-ub-requires g c).Start in let p = accepted g.row.N _ _ _ _ c.requires.0 in (omega arith, (p.target, p.in_target))
 
 pub overflow_mul-width : goal.overflow_mul-width
 overflow_mul-width g c = let h = few g (goal.at.overflow_mul-width g c).Start in omega arith
@@ -99,7 +98,7 @@ slice_bounds-pass_row-end-2 g c = (room g (goal.at.slice_bounds-pass_row-end-2 g
 
 pub pass_row-looked-requires : goal.pass_row-looked-requires
 pass_row-looked-requires g c =
-    record { width = is_width _ c.args.w.is; row_parts = pass_begins g.row.N _ _ _ _ c.requires (begun g (goal.at.pass_row-looked-requires g c).After-above_row-ub) }
+    record { width = c.requires.1; row_parts = pass_begins g.row.N _ _ _ _ c.requires.0 (begun g (goal.at.pass_row-looked-requires g c).After-above_row-ub) }
 
 pub offset_bounds-target-width : goal.offset_bounds-target-width
 offset_bounds-target-width g c = let h = few g (goal.at.offset_bounds-target-width g c).Start in omega arith
@@ -112,11 +111,11 @@ slice_bounds-mend_above-start g c = (done g (goal.at.slice_bounds-mend_above-sta
 
 pub mend_above-requires : goal.mend_above-requires
 mend_above-requires g c =
-    let y = siblings (done g (goal.at.mend_above-requires g c).After-pass_row-looked) in record { siblings = y.0; columns_in_bounds = (y.1, is_width _ c.args.w.is) }
+    let y = siblings (done g (goal.at.mend_above-requires g c).After-pass_row-looked) in record { siblings = y.0; columns_in_bounds = (y.1, c.requires.1) }
 
 pub overflow_cast-result : goal.overflow_cast-result
 overflow_cast-result g c =
-    omega (arith, count_few g.row.N _ _ _ _ c.requires (begun g (goal.at.overflow_cast-result g c).After-above_row-ub) (walked g (goal.at.overflow_cast-result g c).After-pass_row-looked))
+    omega (arith, count_few g.row.N _ _ _ _ c.requires.0 (begun g (goal.at.overflow_cast-result g c).After-above_row-ub) (walked g (goal.at.overflow_cast-result g c).After-pass_row-looked))
 
 pub shape_of-target : goal.shape_of-target
 shape_of-target g c = let m = c.mend_above in same_long (done g (goal.at.shape_of-target g c).After-pass_row-looked) m.new.t m.auto.t
@@ -127,4 +126,4 @@ shape_of-answers g c = c.pass_row-looked.auto.answers
 pub returns : goal.returns
 returns g c =
     let k = (goal.at.returns g c).After-pass_row-looked in let m = c.mend_above in
-    passed_all g.row.N _ _ _ _ c.requires (begun g (goal.at.returns g c).After-above_row-ub) (walked g k) _ ((done g k).all m.new.t m.ensures)
+    passed_all g.row.N _ _ _ _ c.requires.0 (begun g (goal.at.returns g c).After-above_row-ub) (walked g k) _ ((done g k).all m.new.t m.ensures)

@@ -5,7 +5,6 @@ use native.Mathlib.Omega.{arith}
 use lib.ListN.{length-set, length-take, length-drop}
 use Rattle.paper.specs.Words.{wide, table_of}
 use Rattle.paper.specs.Calls.{choice_named, settle_done}
-use Rattle.vector.proofs.Wideness.{is_width}
 use Rattle.paper.specs.Named.{choice_number}
 use Rattle.laws.proofs.Tables.{check_facts}
 use Rattle.two.proofs.TwoTables.{Room, Paired, paired, two_room}
@@ -20,7 +19,7 @@ few : (g : Over) (c : Start g) → g.row.N ≤ 16
 few g c = c.args.w.few
 
 fits : (g : Over) (c : Start g) → SettleFits g.row.N c.args.source.now c.args.target.now c.args.row (choice_number c.args.choice)
-fits g c = settle_facts g.row.N _ _ _ _ _ c.requires
+fits g c = settle_facts g.row.N _ _ _ _ _ c.requires.0
 
 both : (g : Over) (c : Start g) → Paired g.row.N c.args.source.now c.args.target.now c.args.row
 both g c = paired g.row.N _ _ _ (fits g c).two
@@ -100,7 +99,7 @@ slice_bounds-mend_above-start g c = (done g (goal.at.slice_bounds-mend_above-sta
 
 pub mend_above-requires : goal.mend_above-requires
 mend_above-requires g c =
-    let r = (goal.at.mend_above-requires g c).After-settle_row-ticked in let y = siblings (done g r) in record { siblings = y.0; columns_in_bounds = (y.1, is_width _ c.args.w.is) }
+    let r = (goal.at.mend_above-requires g c).After-settle_row-ticked in let y = siblings (done g r) in record { siblings = y.0; columns_in_bounds = (y.1, c.requires.1) }
 
 pub shape_of-target : goal.shape_of-target
 shape_of-target g c = let r = (goal.at.shape_of-target g c).After-settle_row-ticked in same_long (done g r) c.mend_above.new.t c.mend_above.auto.t

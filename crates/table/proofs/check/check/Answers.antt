@@ -1,7 +1,6 @@
 -- The three tests in their turn: past the first the head fits, past the second the rows are in order.
 use Rattle.table.proofs.Heads.{rows, head_wrong, order_wrong, device_right, order_right, rules_said}
 use Rattle.laws.proofs.Tables.{HeadFits, head_facts}
-use Rattle.vector.proofs.Wideness.{is_width}
 use Rattle.paper.specs.Check.{head_fits, order_fits}
 use mathlib.Core.Path.{◌≡◌, sym, ◌∙◌}
 use mathlib.Core.Bool.{true, false}
@@ -42,7 +41,7 @@ pub rows_fit-requires : goal.rows_fit-requires
 rows_fit-requires g c =
     let p = goal.at.rows_fit-requires g c in
     let h = head g p.Else-not-head_fits in
-    record { in_order = order_right _ _ h (order g p.Else-not-order_fits); device_lt_columns = (device_right _ _ h _ (c.clock_of.ensures _), is_width _ c.args.w.is) }
+    record { in_order = order_right _ _ h (order g p.Else-not-order_fits); device_lt_columns = (device_right _ _ h _ (c.clock_of.ensures _), c.requires) }
 
 pub returns-then-not-rows_fit : goal.returns-then-not-rows_fit
 returns-then-not-rows_fit g c =

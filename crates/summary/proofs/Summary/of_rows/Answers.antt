@@ -60,7 +60,9 @@ slice_bounds-rest-start g c = (first g (goal.at.slice_bounds-rest-start g c).In-
 
 pub loop-rest-smaller : goal.loop-rest-smaller
 loop-rest-smaller g c =
-    let f = first g (goal.at.loop-rest-smaller g c).In-loop-rest in omega (arith, f.rows, f.some, tail_length (get_or (take (wide g.row.N) c.loop-rest.rest.now) 1 0 * wide g.row.N) c.loop-rest.rest.now)
+    let f = first g (goal.at.loop-rest-smaller g c).In-loop-rest in 
+    let t = c.loop-rest.rest.now in
+    omega (arith, f.rows, f.some, tail_length (get_or (take (wide g.row.N) t) 1 0 * wide g.row.N) t)
 
 pub loop-rest-preserved : goal.loop-rest-preserved
 loop-rest-preserved g c =

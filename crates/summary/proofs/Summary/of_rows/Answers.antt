@@ -11,7 +11,6 @@ use borrow.Author.Tests.{eqb-true, eqb-false}
 use native.Mathlib.Omega.{arith}
 use Prim.Native.Nat.{ℕ, ◌*◌}
 use lib.ListN.{take, get_or}
-use mathlib.Core.List.{List}
 use mathlib.Core.Path.{refl, sym, ap, ◌∙◌}
 use Rattle.summary.proofs.Summary.of_rows.Goals as goal
 use Rattle.summary.proofs.Summary.of_rows.Given.{Over}
@@ -60,7 +59,7 @@ slice_bounds-rest-start g c = (first g (goal.at.slice_bounds-rest-start g c).In-
 
 pub loop-rest-smaller : goal.loop-rest-smaller
 loop-rest-smaller g c =
-    let f = first g (goal.at.loop-rest-smaller g c).In-loop-rest in 
+    let f = first g (goal.at.loop-rest-smaller g c).In-loop-rest in
     let t = c.loop-rest.rest.now in
     omega (arith, f.rows, f.some, tail_length (get_or (take (wide g.row.N) t) 1 0 * wide g.row.N) t)
 

@@ -12,13 +12,12 @@ fn silent_answer(kind: u32) -> u32
 }
 
 // An answer for each row of a part, whose rows have so many words.
+#[tactic(auto, using(vector::proofs::WriteLoops::upto_columns))]
 pub fn answer_silently(s: &[u32], answers: &mut [u32], width: usize)
     requires { (length s.now ≡ length answers.old * width) × (0 < width) }
     ensures { answers.new ≡ columns (length answers.old) (silent_at width s.now) }
 {
-    let mut i = 0;
-    while i < answers.len() {
-        answers[i] = silent_answer(s[i * width]);
-        i += 1;
+    for (i, answer) in answers.iter_mut().enumerate() {
+        *answer = silent_answer(s[i * width]);
     }
 }

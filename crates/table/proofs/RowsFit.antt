@@ -1,7 +1,9 @@
 -- Rows that fit: what they come to is what their rows say; one row by its children, and siblings by the first of them.
 use Prim.Native.Nat.{ℕ, ◌-◌, ◌*◌, ◌≤◌, ◌<◌}
 use native.Mathlib.Omega.{arith}
-use lib.ListN.{length, take, drop, length-drop}
+use borrow.Author.Tests.{eqb-false}
+use Rattle.std.specs.Bool.{◌==◌}
+use lib.ListN.{length, take, drop}
 use lib.Seq.{length-take-le}
 use mathlib.Core.Path.{◌≡◌, refl, sym, ap, ap₂, ◌∙◌}
 use mathlib.Core.List.{List}
@@ -13,7 +15,7 @@ use Rattle.paper.specs.Order.{kind_word, size_word, after, ordered, Raw, forest_
 use Rattle.paper.specs.Words.{wide, floor_of, tree_from, tree_of}
 use Rattle.paper.specs.Check.{sheet_fits, folder_fits, rows_fit}
 use Rattle.laws.proofs.FormedRows.{ordered_formed}
-use Rattle.laws.proofs.Order.{ordered_facts, row_room}
+use Rattle.laws.proofs.Order.{Step, ordered_facts, row_room}
 use Rattle.laws.proofs.Check.{rows_back, rows_good}
 use Rattle.paper.specs.Widths.{Width}
 use Rattle.laws.proofs.Widths.{width_few}
@@ -25,7 +27,6 @@ use Rattle.layout.specs.FolderSums.{folder_by}
 use Rattle.order.specs.InOrder.{InOrder, OneRow}
 use Rattle.vector.proofs.Places.{part_first}
 use Rattle.order.proofs.FirstRow.{rows_forest, first_length, first_whole, first_ordered, one_under, one_sheet_forest, one_folder_forest}
-use Rattle.order.proofs.Siblings.{next, size_here, part_here, part_after, Here, here}
 
 -- rows that come to what their rows say, and whose stamps name columns
 pub record Told (w : ℕ) (t : List ℕ) : Type 0 where
@@ -125,49 +126,45 @@ fit_plus w c (folder r l s) k u =
     ∙ ap (λ x. a && x) (sym (and_assoc b (rows_fit w c s u) (rows_fit w c k u)))
     ∙ sym (and_assoc a (b && rows_fit w c s u) (rows_fit w c k u))
 
--- siblings from word `at` on
-module _ (w : ℕ) (t : List ℕ) (at : ℕ) (l : at < length t) (q : InOrder w (drop at t)) where
-  some : 0 < length (drop at t)
-  some = omega (arith, length-drop at t)
+pub not_empty : (t : List ℕ) → false ≡ (length t == 0) → 0 < length t
+not_empty t e = let n = eqb-false (length t) 0 (sym e) in omega arith
 
-  -- the row at `at` with all beneath it
-  abbrev pub part_at : List ℕ
-  part_at = take (next (wide w) t at - at) (drop at t)
+-- SIBLINGS: the first row r with all beneath it, and the rows s after it
+module _ (w : ℕ) (t : List ℕ) (some : 0 < length t) (q : InOrder w t) where
+  first_step : Step (wide w) (omega arith) q.levels t
+  first_step = ordered_facts (wide w) (omega arith) q.levels t some q.order
 
-  pub row_here : Here (wide w) q.levels t at
-  row_here = here (wide w) (omega arith) q.levels t at (ordered_facts (wide w) (omega arith) q.levels (drop at t) some q.order).fits
+  pub first_some : wide w ≤ size_word t * wide w
+  first_some = row_room (wide w) q.levels t first_step.fits
 
-  pub row_length : length part_at ≡ next (wide w) t at - at
-  row_length = length-take-le (next (wide w) t at - at) (drop at t) (omega (arith, row_here.room, length-drop at t))
+  pub first_room : size_word t * wide w ≤ length t
+  first_room = first_step.fits.room
 
-  pub row_one : OneRow w part_at
-  row_one =
-      rw (part_here (wide w) t at)
+  pub row_one : {r : List ℕ} → r ≡ take (size_word t * wide w) t → OneRow w r
+  row_one e =
+      rw e
       (record {
         levels = q.levels;
-        order = first_ordered (wide w) (omega arith) q.levels (drop at t) some q.order;
-        some = omega (arith, first_length (wide w) (omega arith) q.levels (drop at t) some q.order, row_here.under, ap (λ k. k * wide w) (size_here (wide w) t at));
-        whole = first_whole (wide w) (omega arith) q.levels (drop at t) some q.order;
+        order = first_ordered (wide w) (omega arith) q.levels t some q.order;
+        some = omega (arith, first_length (wide w) (omega arith) q.levels t some q.order, first_some);
+        whole = first_whole (wide w) (omega arith) q.levels t some q.order;
       })
 
-  pub rows_after : InOrder w (drop (next (wide w) t at) t)
-  rows_after = record {
-    levels = q.levels;
-    order = ap (ordered (wide w) q.levels) (part_after (wide w) t at) ∙ (ordered_facts (wide w) (omega arith) q.levels (drop at t) some q.order).after;
-  }
+  pub rows_after : {s : List ℕ} → s ≡ after (wide w) t → InOrder w s
+  rows_after e = rw e (record { levels = q.levels; order = first_step.after })
 
-  module _ (c : Clock) (u : Vec) where
-    rows_step : rows_fit w c (forest_of (wide w) (drop at t)) u ≡ (rows_fit w c (forest_of (wide w) part_at) u && rows_fit w c (forest_of (wide w) (drop (next (wide w) t at) t)) u)
+  module _ (c : Clock) (u : Vec) {r s : List ℕ} (d : r ≡ take (size_word t * wide w) t) (e : s ≡ after (wide w) t) where
+    rows_step : rows_fit w c (forest_of (wide w) t) u ≡ (rows_fit w c (forest_of (wide w) r) u && rows_fit w c (forest_of (wide w) s) u)
     rows_step =
-        ap (λ f. rows_fit w c f u) (rows_forest (wide w) (omega arith) q.levels (drop at t) some q.order)
-        ∙ fit_plus w c (forest_of (wide w) (take (size_word (drop at t) * (wide w)) (drop at t))) (forest_of (wide w) (after (wide w) (drop at t))) u
-        ∙ ap₂ (λ x y. rows_fit w c (forest_of (wide w) x) u && rows_fit w c (forest_of (wide w) y) u) (sym (part_here (wide w) t at)) (sym (part_after (wide w) t at))
+        ap (λ f. rows_fit w c f u) (rows_forest (wide w) (omega arith) q.levels t some q.order)
+        ∙ fit_plus w c (forest_of (wide w) (take (size_word t * wide w) t)) (forest_of (wide w) (after (wide w) t)) u
+        ∙ ap₂ (λ x y. rows_fit w c (forest_of (wide w) x) u && rows_fit w c (forest_of (wide w) y) u) (sym d) (sym e)
 
-    pub rows_broken : rows_fit w c (forest_of (wide w) part_at) u ≡ false → rows_fit w c (forest_of (wide w) (drop at t)) u ≡ false
-    rows_broken e = rows_step ∙ rw e
+    pub rows_broken : rows_fit w c (forest_of (wide w) r) u ≡ false → rows_fit w c (forest_of (wide w) t) u ≡ false
+    rows_broken b = rows_step ∙ rw b
 
-    pub rows_next : rows_fit w c (forest_of (wide w) part_at) u ≡ true → rows_fit w c (forest_of (wide w) (drop at t)) u ≡ rows_fit w c (forest_of (wide w) (drop (next (wide w) t at) t)) u
-    rows_next e = rows_step ∙ rw e
+    pub rows_next : rows_fit w c (forest_of (wide w) r) u ≡ true → rows_fit w c (forest_of (wide w) t) u ≡ rows_fit w c (forest_of (wide w) s) u
+    rows_next b = rows_step ∙ rw b
 
 -- no siblings
 pub rows_none : (w : ℕ) (c : Clock) (t : List ℕ) (u : Vec) → length t ≡ 0 → rows_fit w c (forest_of (wide w) t) u ≡ true

@@ -5,7 +5,7 @@ ghost use Rattle.paper.specs.Check.{check_of};
 ghost use Rattle.paper.specs.Refusals.{number_in, first, when, tens};
 ghost use Rattle.paper.specs.Calls.{two_refused, pass_refused, settle_refused, ahead_refused, ruling_here, is_folder, conflicts};
 ghost use Rattle.paper.specs.Named.{choice_number};
-ghost use Rattle.paper.specs.Widths.{check_any, two_widths, width_of};
+ghost use Rattle.paper.specs.Widths.{check_any, two_widths, width_of, two_refused_any, pass_refused_any, settle_refused_any, ahead_refused_any};
 ghost use Rattle.vector.specs.Wideness.{columns_in};
 
 use crate::{content_refused, counter_refused};
@@ -45,7 +45,7 @@ pub fn one_width(source: &[u32], target: &[u32]) -> Result<Columns, Refusal>
 }
 
 // 4 to 8, for tables that pass the check.
-pub fn two_refused<const N: usize>(
+pub(crate) fn two_refused_at<const N: usize>(
     source: &[u32],
     target: &[u32],
     row: u32,
@@ -74,9 +74,23 @@ pub fn two_refused<const N: usize>(
     Ok(())
 }
 
-// The first refusal of a pass: those of two tables and a row, then 9.
+// The first refusal of two tables of any width and a row: 1 to 3, 11 to 13, 19, 4 to 8; where nothing refuses, their width.
+#[tactic(auto, unfolding(paper::specs::Widths::widths_then), using(crate::proofs::FirstRefused::refusals))]
+pub fn two_refused(source: &[u32], target: &[u32], row: u32) -> Result<Columns, Refusal>
+    ensures number { number_in result ≡ two_refused_any source.now target.now row }
+    ensures width { IfOk result (λ c. columns_in c ≡ width_of target.now) }
+{
+    let columns = one_width(source, target)?;
+    match columns {
+        Columns::Eight(w) => two_refused_at(source, target, row, w)?,
+        Columns::Sixteen(w) => two_refused_at(source, target, row, w)?,
+    }
+    Ok(columns)
+}
+
+// Of a pass: those of two tables and a row, then 9.
 #[tactic(auto, unfolding(paper::specs::Calls::pass_refused), using(crate::proofs::FirstRefused::refusals))]
-pub fn pass_refused<const N: usize>(
+fn pass_refused_at<const N: usize>(
     source: &[u32],
     target: &[u32],
     row: u32,
@@ -86,12 +100,31 @@ pub fn pass_refused<const N: usize>(
     requires { (check_of N source.now ≡ 0) × (check_of N target.now ≡ 0) }
     ensures { number_in result ≡ pass_refused N source.now target.now row answers.now }
 {
-    two_refused(source, target, row, w)?;
+    two_refused_at(source, target, row, w)?;
     let at = (row as usize + 1) * (Row::FLOOR + 4 * N);
     if answers.len() != target[at + Row::SIZE] as usize {
         return Err(Refusal::WrongLength);
     }
     Ok(())
+}
+
+// So of a pass of tables of any width.
+#[tactic(auto, unfolding(paper::specs::Widths::widths_then), using(crate::proofs::FirstRefused::refusals))]
+pub fn pass_refused(
+    source: &[u32],
+    target: &[u32],
+    row: u32,
+    answers: &[u32],
+) -> Result<Columns, Refusal>
+    ensures number { number_in result ≡ pass_refused_any source.now target.now row answers.now }
+    ensures width { IfOk result (λ c. columns_in c ≡ width_of target.now) }
+{
+    let columns = one_width(source, target)?;
+    match columns {
+        Columns::Eight(w) => pass_refused_at(source, target, row, answers, w)?,
+        Columns::Sixteen(w) => pass_refused_at(source, target, row, answers, w)?,
+    }
+    Ok(columns)
 }
 
 // 10 where the row is a folder, 14 where the rules say no conflict.
@@ -115,7 +148,7 @@ fn conflict_refused<const N: usize>(
 
 // As a pass up to 8, then 16, 21, 22, 10, 14, 15; where nothing refuses, the choice.
 #[tactic(auto, unfolding(paper::specs::Calls::settle_refused), using(crate::proofs::FirstRefused::refusals))]
-pub fn settle_refused<const N: usize>(
+fn settle_refused_at<const N: usize>(
     source: &[u32],
     target: &[u32],
     row: u32,
@@ -127,7 +160,7 @@ pub fn settle_refused<const N: usize>(
     ensures number { number_in result ≡ settle_refused N source.now target.now row choice content }
     ensures named { IfOk result (λ c. choice ≡ choice_number c) }
 {
-    two_refused(source, target, row, w)?;
+    two_refused_at(source, target, row, w)?;
     let named = Choice::try_from(choice)?;
     content_refused(named.takes_content(), content)?;
     conflict_refused(source, target, row, w)?;
@@ -135,9 +168,30 @@ pub fn settle_refused<const N: usize>(
     Ok(named)
 }
 
+// So of a settling; where nothing refuses, the width and the choice.
+#[tactic(auto, unfolding(paper::specs::Widths::widths_then), using(crate::proofs::FirstRefused::refusals))]
+pub fn settle_refused(
+    source: &[u32],
+    target: &[u32],
+    row: u32,
+    choice: u32,
+    content: Content,
+) -> Result<(Columns, Choice), Refusal>
+    ensures number { number_in result ≡ settle_refused_any source.now target.now row choice content }
+    ensures width { IfOk result (λ r. columns_in r.0 ≡ width_of target.now) }
+    ensures named { IfOk result (λ r. choice ≡ choice_number r.1) }
+{
+    let columns = one_width(source, target)?;
+    let named = match columns {
+        Columns::Eight(w) => settle_refused_at(source, target, row, choice, content, w)?,
+        Columns::Sixteen(w) => settle_refused_at(source, target, row, choice, content, w)?,
+    };
+    Ok((columns, named))
+}
+
 // As a settling, without 16, 21, 22 and 15: then a mask for each side can be told.
 #[tactic(auto, unfolding(paper::specs::Calls::ahead_refused), using(crate::proofs::FirstRefused::refusals))]
-pub fn ahead_refused<const N: usize>(
+fn ahead_refused_at<const N: usize>(
     source: &[u32],
     target: &[u32],
     row: u32,
@@ -146,6 +200,20 @@ pub fn ahead_refused<const N: usize>(
     requires { (check_of N source.now ≡ 0) × (check_of N target.now ≡ 0) }
     ensures { number_in result ≡ ahead_refused N source.now target.now row }
 {
-    two_refused(source, target, row, w)?;
+    two_refused_at(source, target, row, w)?;
     conflict_refused(source, target, row, w)
+}
+
+// So of the question who is ahead.
+#[tactic(auto, unfolding(paper::specs::Widths::widths_then), using(crate::proofs::FirstRefused::refusals))]
+pub fn ahead_refused(source: &[u32], target: &[u32], row: u32) -> Result<Columns, Refusal>
+    ensures number { number_in result ≡ ahead_refused_any source.now target.now row }
+    ensures width { IfOk result (λ c. columns_in c ≡ width_of target.now) }
+{
+    let columns = one_width(source, target)?;
+    match columns {
+        Columns::Eight(w) => ahead_refused_at(source, target, row, w)?,
+        Columns::Sixteen(w) => ahead_refused_at(source, target, row, w)?,
+    }
+    Ok(columns)
 }

@@ -54,7 +54,7 @@ pub fn widen_refused(table: &[u32], wider: &[u32]) -> Result<(), Refusal>
 
 // Does an event fit a row of this kind?
 #[tactic(auto, unfolding(paper::specs::Acts::fits, paper::specs::Words::kind_of, paper::specs::Acts::is_live))]
-fn fits_kind(event: Event, kind: u32) -> bool
+pub fn fits_kind(event: Event, kind: u32) -> bool
     ensures { result ≡ cond (eqb kind 3) false (fits event (kind_of kind)) }
 {
     if kind == Row::FOLDER {

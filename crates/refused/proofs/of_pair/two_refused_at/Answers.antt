@@ -12,9 +12,9 @@ use Rattle.paper.specs.declared.Clock.{Clock}
 use Rattle.laws.proofs.Refusals.{first_one, first_passed, first_met, first_held, first_failed, when_true, when_false}
 use Rattle.two.proofs.TwoTables.{clock_device, no_row, row_there, table_long}
 use Rattle.refused.proofs.FirstRefused.{two_checked}
-use Rattle.refused.proofs.of_pair.two_refused.Goals as goal
-use Rattle.refused.proofs.of_pair.two_refused.Given.{Over}
-use Rattle.refused.proofs.of_pair.two_refused.Goals.{After-clock_of-a, After-clock_of-b, After-names_later, After-names_later-2, Else-a-b, Else-names_later-2, Else-not-same_shape, Start}
+use Rattle.refused.proofs.of_pair.two_refused_at.Goals as goal
+use Rattle.refused.proofs.of_pair.two_refused_at.Given.{Over}
+use Rattle.refused.proofs.of_pair.two_refused_at.Goals.{After-clock_of-a, After-clock_of-b, After-names_later, After-names_later-2, Else-a-b, Else-names_later-2, Else-not-same_shape, Start}
 
 abbrev a : (g : Over) → Start g → Table
 a g s = table_of g.row.N s.args.source.now

@@ -4,6 +4,7 @@ ghost use Rattle.paper.specs.Words.{table_of};
 ghost use Rattle.paper.specs.Check.{check_of};
 ghost use Rattle.paper.specs.Refusals.{number_in};
 ghost use Rattle.paper.specs.Calls.{beneath_refused, standing_refused, ruling_here};
+ghost use Rattle.paper.specs.Widths;
 ghost use Rattle.paper.specs.Widths.{width_of, standing_refused_any};
 ghost use Rattle.vector.specs.Wideness.{columns_in};
 ghost use Rattle.std.proofs.Math.Option.{some};
@@ -11,6 +12,7 @@ ghost use Rattle.std.proofs.Math.Option.{some};
 use crate::of_pair::{one_width, two_refused_at};
 use paper::{Refusal, Ruling};
 use table::check::check;
+use table::head::columns_of;
 use vector::head::Head;
 use vector::row::{Columns, Row};
 use vector::width::Width;
@@ -18,7 +20,8 @@ use verdict::ruling::ruling_at;
 
 // The first refusal of a showing of the rows beneath a folder: 1, 2, 3, 8.
 #[tactic(auto, unfolding(paper::specs::Calls::beneath_refused), using(crate::proofs::FirstRefused::refusals))]
-pub fn beneath_refused<const N: usize>(table: &[u32], row: u32, w: Width<N>) -> Result<(), Refusal>
+fn beneath_refused_at<const N: usize>(table: &[u32], row: u32, w: Width<N>) -> Result<(), Refusal>
+    requires { Widths.Width N }
     ensures { number_in result ≡ beneath_refused N table.now row }
 {
     check(table, w)?;
@@ -29,6 +32,19 @@ pub fn beneath_refused<const N: usize>(table: &[u32], row: u32, w: Width<N>) -> 
         return Err(Refusal::NoSuchRow);
     }
     Ok(())
+}
+
+// So at the table's own width, which is handed back.
+pub fn beneath_refused(table: &[u32], row: u32) -> Result<Columns, Refusal>
+    ensures number { number_in result ≡ beneath_refused (width_of table.now) table.now row }
+    ensures width { IfOk result (λ c. columns_in c ≡ width_of table.now) }
+{
+    let columns = columns_of(table);
+    match columns {
+        Columns::Eight(w) => beneath_refused_at(table, row, w)?,
+        Columns::Sixteen(w) => beneath_refused_at(table, row, w)?,
+    }
+    Ok(columns)
 }
 
 // As a pass up to 8, then 10; where nothing refuses, what the rules say.

@@ -5,12 +5,15 @@ ghost use Rattle.paper.specs.Words.{kind_of};
 ghost use Rattle.paper.specs.Refusals.{number_in};
 ghost use Rattle.paper.specs.Calls.{new_refused, event_refused};
 ghost use Rattle.paper.specs.Named.{event_number};
-ghost use Rattle.paper.specs.Widths.{widen_refused};
+ghost use Rattle.paper.specs.Widths;
+ghost use Rattle.paper.specs.Widths.{width_of, widen_refused};
+ghost use Rattle.vector.specs.Wideness.{columns_in};
 
 use crate::{content_refused, counter_refused};
 use paper::{Content, Event, Fault, Refusal};
 use plan::plan_fits;
 use table::check::{check, check_any};
+use table::head::columns_of;
 use vector::head::Head;
 use vector::row::{Columns, Row, Wide};
 use vector::width::Width;
@@ -68,13 +71,14 @@ pub fn fits_kind(event: Event, kind: u32) -> bool
 
 // The first refusal of an event: 1, 2, 3, 16, 21, 22, 8, 10, 15; where nothing refuses, the event.
 #[tactic(auto, unfolding(paper::specs::Calls::event_refused), using(crate::proofs::FirstRefused::refusals))]
-pub fn event_refused<const N: usize>(
+fn event_refused_at<const N: usize>(
     table: &[u32],
     row: u32,
     event: u32,
     content: Content,
     w: Width<N>,
 ) -> Result<Event, Refusal>
+    requires { Widths.Width N }
     ensures number { number_in result ≡ event_refused N table.now row event content }
     ensures named { IfOk result (λ e. event ≡ event_number e) }
 {
@@ -89,4 +93,23 @@ pub fn event_refused<const N: usize>(
     }
     counter_refused(table)?;
     Ok(named)
+}
+
+// So of an event at the table's own width, which is handed back with it.
+pub fn event_refused(
+    table: &[u32],
+    row: u32,
+    event: u32,
+    content: Content,
+) -> Result<(Columns, Event), Refusal>
+    ensures number { number_in result ≡ event_refused (width_of table.now) table.now row event content }
+    ensures width { IfOk result (λ r. columns_in r.0 ≡ width_of table.now) }
+    ensures named { IfOk result (λ r. event ≡ event_number r.1) }
+{
+    let columns = columns_of(table);
+    let named = match columns {
+        Columns::Eight(w) => event_refused_at(table, row, event, content, w)?,
+        Columns::Sixteen(w) => event_refused_at(table, row, event, content, w)?,
+    };
+    Ok((columns, named))
 }

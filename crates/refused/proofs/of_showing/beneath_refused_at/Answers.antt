@@ -10,7 +10,7 @@ use Rattle.laws.proofs.Tables.{check_facts}
 use Rattle.order.proofs.RowPlaces.{begins}
 use Rattle.two.proofs.TwoTables.{no_row, row_there}
 use Rattle.verdict.proofs.SheetAt.{folder_word}
-use Rattle.refused.proofs.of_showing.beneath_refused.Goals as goal
+use Rattle.refused.proofs.of_showing.beneath_refused_at.Goals as goal
 
 pub bounds-table-2 : goal.bounds-table-2
 bounds-table-2 g c = omega (arith, (check_facts _ _ (sym c.in_ok-check.ensures)).head.long)

@@ -12,7 +12,7 @@ use Rattle.two.proofs.TwoTables.{no_row, row_there}
 use Rattle.refused.proofs.EventFits.{fits_row}
 use Rattle.refused.proofs.FirstRefused.{refused_here}
 use Rattle.refused.proofs.Named.{event_said}
-use Rattle.refused.proofs.of_table.event_refused.Goals as goal
+use Rattle.refused.proofs.of_table.event_refused_at.Goals as goal
 
 pub returns-in_err-content_refused-clause-number : goal.returns-in_err-content_refused-clause-number
 returns-in_err-content_refused-clause-number g c = rw (event_said _ _ _ _ _ _ _ c.in_ok-named.ensures c.takes_content.ensures) (grind (arith, common_steps, refused_here, first_next))

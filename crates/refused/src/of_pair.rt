@@ -10,7 +10,7 @@ ghost use Rattle.vector.specs.Wideness.{columns_in};
 
 use crate::{content_refused, counter_refused};
 use paper::{Choice, Content, Refusal, Ruling};
-use table::check::check_any;
+use table::check::check;
 use table::head::clock_of;
 use two::later::names_later;
 use two::shape::same_shape;
@@ -25,7 +25,7 @@ fn target_width(target: &[u32]) -> Result<Columns, Refusal>
     ensures number { number_in result ≡ tens (check_any target.now) }
     ensures width { IfOk result (λ c. columns_in c ≡ width_of target.now) }
 {
-    check_any(target).map_err(Refusal::Target)
+    check(target).map_err(Refusal::Target)
 }
 
 // 1 to 3 of the source, 11 to 13 of the target, 19 where their widths differ; where nothing refuses, their one width.
@@ -35,7 +35,7 @@ pub fn one_width(source: &[u32], target: &[u32]) -> Result<Columns, Refusal>
     ensures width { IfOk result (λ c. columns_in c ≡ width_of target.now) }
     ensures checked { IfOk result (λ c. (check_of (columns_in c) source.now ≡ 0) × (check_of (columns_in c) target.now ≡ 0)) }
 {
-    let columns = check_any(source)?;
+    let columns = check(source)?;
     let other = target_width(target)?;
     match (columns, other) {
         (Columns::Eight(w), Columns::Eight(_)) => Ok(Columns::Eight(w)),

@@ -11,7 +11,7 @@ ghost use Rattle.std.proofs.Math.Option.{some};
 
 use crate::of_pair::{one_width, two_refused_at};
 use paper::{Refusal, Ruling};
-use table::check::check;
+use table::check::check_at;
 use table::head::columns_of;
 use vector::head::Head;
 use vector::row::{Columns, Row};
@@ -24,7 +24,7 @@ fn beneath_refused_at<const N: usize>(table: &[u32], row: u32, w: Width<N>) -> R
     requires { Widths.Width N }
     ensures { number_in result ≡ beneath_refused N table.now row }
 {
-    check(table, w)?;
+    check_at(table, w)?;
     if table[Head::ROWS] <= row {
         return Err(Refusal::NoSuchRow);
     }

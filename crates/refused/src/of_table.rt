@@ -12,7 +12,7 @@ ghost use Rattle.vector.specs.Wideness.{columns_in};
 use crate::{content_refused, counter_refused};
 use paper::{Content, Event, Fault, Refusal};
 use plan::plan_fits;
-use table::check::{check, check_any};
+use table::check::{check, check_at};
 use table::head::columns_of;
 use vector::head::Head;
 use vector::row::{Columns, Row, Wide};
@@ -46,7 +46,7 @@ pub fn new_refused<const N: usize>(
 pub fn widen_refused(table: &[u32], wider: &[u32]) -> Result<(), Refusal>
     ensures { number_in result ≡ widen_refused table.now wider.now }
 {
-    if let Columns::Sixteen(_) = check_any(table)? {
+    if let Columns::Sixteen(_) = check(table)? {
         return Err(Refusal::Width);
     }
     if wider.len() != table[Head::ROWS] as usize * Wide::WIDTH + Wide::WIDTH {
@@ -82,7 +82,7 @@ fn event_refused_at<const N: usize>(
     ensures number { number_in result ≡ event_refused N table.now row event content }
     ensures named { IfOk result (λ e. event ≡ event_number e) }
 {
-    check(table, w)?;
+    check_at(table, w)?;
     let named = Event::try_from(event)?;
     content_refused(named.takes_content(), content)?;
     if table[Head::ROWS] <= row {

@@ -11,7 +11,7 @@ use Rattle.refused.proofs.of_table.widen_refused.Goals as goal
 pub returns-in-Sixteen : goal.returns-in-Sixteen
 unfolding widen_refused
 returns-in-Sixteen c =
-    sym (first_next _ _ (sym c.in_ok-check_any.ensures.number) ∙ first_met 18 _ (eq-eqb _ _ (sym c.in_ok-check_any.ensures.width ∙ ap columns_in c.in-Sixteen.is)))
+    sym (first_next _ _ (sym c.in_ok-check.ensures.number) ∙ first_met 18 _ (eq-eqb _ _ (sym c.in_ok-check.ensures.width ∙ ap columns_in c.in-Sixteen.is)))
 
 pub bounds-table-2 : goal.bounds-table-2
-bounds-table-2 c = omega (arith, (check_facts _ _ (sym c.in_ok-check_any.ensures.number)).head.long)
+bounds-table-2 c = omega (arith, (check_facts _ _ (sym c.in_ok-check.ensures.number)).head.long)

@@ -6,9 +6,9 @@ use mathlib.Core.Path.{◌≡◌, sym, ◌∙◌}
 use mathlib.Core.Bool.{true, false}
 use lib.ListN.{get_or}
 use native.Mathlib.Omega.{arith}
-use Rattle.table.proofs.check.check.Goals as goal
-use Rattle.table.proofs.check.check.Given.{Over}
-use Rattle.table.proofs.check.check.Goals.{Else-not-head_fits, Else-not-order_fits}
+use Rattle.table.proofs.check.check_at.Goals as goal
+use Rattle.table.proofs.check.check_at.Given.{Over}
+use Rattle.table.proofs.check.check_at.Goals.{Else-not-head_fits, Else-not-order_fits}
 
 head : (g : Over) (c : Else-not-head_fits g) → head_fits g.row.N c.args.t.now ≡ true
 head g c = sym c.head_fits.ensures ∙ c.if-not-head_fits.false

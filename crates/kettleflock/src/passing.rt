@@ -9,7 +9,6 @@ use refused::of_pair::pass_refused;
 use vector::row::Columns;
 
 // Passes the subtree of a row from a source to a target: one answer for each of its rows. The count is the rows looked at.
-#[tactic(auto, unfolding(paper::specs::Widths::pass_any), using(refused::proofs::FirstRefused::outcomes))]
 pub fn pass(
     source: &[u32],
     target: &mut [u32],

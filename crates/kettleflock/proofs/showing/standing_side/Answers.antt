@@ -1,6 +1,6 @@
 -- The side of what the rules say; none on a refusal.
 use mathlib.Core.Path.{sym, ◌∙◌}
-use Rattle.refused.proofs.FirstRefused.{unless_refused, refusal_some}
+use Rattle.refused.proofs.FirstRefused.{refusal_some}
 use Rattle.laws.proofs.Refusals.{unless_some}
 use Rattle.kettleflock.proofs.Sides.{side_one, side_said}
 use Rattle.kettleflock.proofs.showing.standing_side.Goals as goal

@@ -21,8 +21,7 @@ use Rattle.paper.specs.Acts.{is_live, fits, event_row, birth_of, settle_row}
 use Rattle.run.specs.Knowledge.{Sort, sets}
 use Rattle.history.specs.Vectors.{vectors}
 use Rattle.run.specs.World.{World, begin, next, tick, put, eventful, passing, settling}
-use Rattle.history.proofs.CellsFit.{Set, Stamped, Born, born_map, Fits, or_first, or_second, join_fits}
-use Rattle.history.proofs.CellsFit.{passed_fits, same_refl, up, fresh, past_up, made_named, other_fits, self_fits}
+use Rattle.history.proofs.CellsFit.{Set, Stamped, Born, born_map, Fits, or_first, or_second, join_fits, passed_fits, same_refl, up, fresh, past_up, made_named, other_fits, self_fits}
 
 -- all cells fit; every event of a sheet's log has been made
 pub record Inv (v : World Vec) (h : World Set) : Type 0 where

@@ -14,8 +14,7 @@ use Rattle.paper.specs.Tree.{size, subtree, sheet_here}
 use Rattle.paper.specs.Words.{table_of}
 use Rattle.paper.specs.Check.{check_of}
 use Rattle.paper.specs.Refusals.{first, when}
-use Rattle.paper.specs.Calls.{one_to_three, event_named, choice_named, fits_sheet, last_count, content_if, event_refused}
-use Rattle.paper.specs.Calls.{two_refused, ruling_here, is_folder, conflicts, settle_refused}
+use Rattle.paper.specs.Calls.{one_to_three, event_named, choice_named, fits_sheet, last_count, content_if, event_refused, two_refused, ruling_here, is_folder, conflicts, settle_refused}
 use Rattle.paper.specs.Named.{event_number, choice_number}
 use Rattle.laws.proofs.Refusals.{first_skip, first_flat, unless_so}
 

@@ -11,12 +11,11 @@ use Rattle.paper.specs.Tree.{Forest, end, sheet, folder, mapped, size, shaped}
 use Rattle.paper.specs.Order.{kind_word, Raw, forest_of}
 use Rattle.paper.specs.Words.{wide, sheet_of, floor_of, table_of}
 use Rattle.paper.specs.Calls.{row_at}
-use Rattle.laws.proofs.Bools.{and_both}
+use Rattle.laws.proofs.Bools.{and_both, not_so}
 use Rattle.laws.proofs.FormedRows.{SheetRow, FolderRow, Formed, ordered_formed, cancel}
 use Rattle.paper.specs.Check.{check_of}
 use Rattle.laws.proofs.Tables.{check_facts}
 use Rattle.two.specs.PlanNumber.{plan_number}
-use Rattle.laws.proofs.Bools.{not_so}
 use Rattle.two.proofs.Listed.{listed, length_listed, word_at, rows_on, rows_next, rows_end, rows_count, rows_all}
 
 pub sheet_number : (n : ℕ) (r : List ℕ) → SheetRow n r → plan_number r ≡ 0

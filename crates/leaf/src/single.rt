@@ -12,7 +12,7 @@ use vector::above::Above;
 use vector::row::Row;
 use vector::width::Width;
 
-// What stands at row s taken to row t, where `yes`.
+// What stands at row s taken to row t, where `yes`: with an `if` at the call, what is known would be lost where its branches meet.
 pub fn take_row(yes: bool, s: &[u32], t: &mut [u32])
     requires { (floor_at ≤ length s.now) × (floor_at ≤ length t.old) }
     ensures { t.new ≡ cond yes (taken_from s.now t.old) t.old }
@@ -24,7 +24,7 @@ pub fn take_row(yes: bool, s: &[u32], t: &mut [u32])
     }
 }
 
-// The floor of row t raised by a vector, where `yes`; the clock is that of t's table.
+// The floor of row t raised by a vector, where `yes`, as above; the clock is that of t's table.
 pub fn raise_floor<const N: usize>(yes: bool, t: &mut [u32], clock: Clock, v: Vector, w: Width<N>)
     requires { (wide N ≤ length t.old) × (clock.device < N) }
     ensures { t.new ≡ raised_where N yes clock (vec v.0) t.old }

@@ -168,7 +168,7 @@ fn settle_refused_at<const N: usize>(
     Ok(named)
 }
 
-// So of a settling; where nothing refuses, the width and the choice.
+// So of a settling, whose choice is any number: 16 has its place in the order; where nothing refuses, the width and the choice.
 #[tactic(auto, unfolding(paper::specs::Widths::widths_then), using(crate::proofs::FirstRefused::refusals))]
 pub fn settle_refused(
     source: &[u32],

@@ -95,7 +95,7 @@ fn event_refused_at<const N: usize>(
     Ok(named)
 }
 
-// So of an event at the table's own width, which is handed back with it.
+// So of an event at the table's own width, which is handed back with it. The event is any number: 16 has its place in the order.
 pub fn event_refused(
     table: &[u32],
     row: u32,

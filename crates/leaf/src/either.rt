@@ -1,4 +1,5 @@
-// The leaves at the width that a number says, for a walk that calls itself.
+// The leaves at the width that a number says, for a walk that calls itself: were it generic,
+// it would get no proof, since an answer for its own call would not count.
 ghost use Rattle.std.specs.Prelude.{◌≡◌, ◌*◌, length};
 ghost use Rattle.paper.specs.Columns.{vec};
 ghost use Rattle.paper.specs.Words.{wide};

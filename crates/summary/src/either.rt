@@ -1,4 +1,5 @@
-// Summaries at the width that a number says, for a walk over rows that calls itself.
+// Summaries at the width that a number says, for a walk over rows that calls itself: were it generic,
+// it would get no proof, since an answer for its own call would not count.
 ghost use Rattle.std.specs.Prelude.{◌≡◌, ◌≤◌, length, drop};
 ghost use Rattle.paper.specs.Order.{forest_of};
 ghost use Rattle.paper.specs.Words.{wide};

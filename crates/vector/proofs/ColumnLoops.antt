@@ -1,19 +1,19 @@
 -- Laws of vectors, for any width: what a test column by column has found, and how a vector is made.
 use Prim.Native.Nat.{ℕ, zero, suc, ◌+◌, ◌-◌, ◌^◌, ◌≤◌, ◌<◌, max}
-use mathlib.Core.Path.{◌≡◌, refl, sym, ap, subst, ◌∙◌, fun_ext}
+use mathlib.Core.Path.{◌≡◌, refl, sym, ap, ap₂, subst, ◌∙◌, fun_ext}
 use mathlib.Core.List.{List, [], ◌∷◌, ◌++◌, append-nil}
 use mathlib.Core.Bool.{Bool, true, false, not, cond, false≢true}
 use native.Mathlib.Numerals.{add-one}
 use native.Mathlib.Nat.{add-sub_cancel_left}
 use native.Mathlib.Omega.{arith}
 use lib.Dec.{eqb}
-use lib.Pow.{pow-add}
+use lib.Pow.{pow-add, pow_mono}
 use borrow.Author.Tests.{eq-eqb, eqb-true, eqb-false}
 use lib.ListN.{length, get_or, take, drop, replicate, set, drop_of_length-le, get_or-eq_default}
 use lib.Seq.{get_or-take, get_or-drop, get_or-set_same, get_or-set_other, take_all}
 use Rattle.paper.specs.Columns.{Vec, Narrow, zeros, greatest, vec, column, columns, part, mask, alike}
 use Rattle.laws.proofs.Bools.{not_so}
-use Rattle.laws.proofs.Masks.{mask_none, none_mask}
+use Rattle.laws.proofs.Masks.{mask_below, mask_none, none_mask}
 use Rattle.laws.proofs.Columns.{alike_at, at_alike, length_columns, vec_columns, columns_same, columns_part, part_length}
 use Rattle.vector.specs.Places.{put}
 
@@ -30,8 +30,20 @@ pub mask_without : (test : ℕ → Bool) {i m : ℕ} → test i ≡ false → m 
 unfolding mask
 mask_without test {i} {m} t p = rw (add-one, t) (omega (arith, p))
 
+-- so with the test undecided
+pub mask_more : (test : ℕ → Bool) (i : ℕ) {m b : ℕ} → m ≡ mask i test → b ≡ 2 ^ i → m + cond (test i) b 0 ≡ mask (i + 1) test
+unfolding mask
+mask_more test i {m} {b} p q = rw (add-one) (ap₂ (λ (x y : ℕ). x + cond (test i) y 0) p q ∙ omega arith)
+
 pub bit_more : (i : ℕ) {b : ℕ} → b ≡ 2 ^ i → b + b ≡ 2 ^ (i + 1)
 bit_more i q = omega (arith, q, pow-add 2 i 1)
+
+-- the bit and the sums fit w bits
+pub bit_room : (i w : ℕ) {b : ℕ} → b ≡ 2 ^ i → i ≤ w → b ≤ 2 ^ w
+bit_room i w q h = omega (arith, q, pow_mono h)
+
+pub mask_room : (test : ℕ → Bool) (i w : ℕ) {m b : ℕ} → m ≡ mask i test → b ≡ 2 ^ i → i < w → m + cond (test i) b 0 < 2 ^ w
+mask_room test i w p q h = omega (arith, mask_more test i p q, mask_below (i + 1) test, pow_mono {i = i + 1} {j = w} (omega arith))
 
 -- neither is ahead of the other where no column differs
 pub differ_alike : (w : ℕ) (u v : Vec) → eqb (mask w (λ j. not (eqb (u j) (v j)))) 0 ≡ alike w u v

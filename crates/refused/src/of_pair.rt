@@ -3,8 +3,9 @@ ghost use Rattle.std.specs.Prelude.{◌≡◌, not, [], ◌∷◌, IfOk};
 ghost use Rattle.paper.specs.Words.{table_of};
 ghost use Rattle.paper.specs.Check.{check_of};
 ghost use Rattle.paper.specs.Refusals.{number_in, first, when, tens};
-ghost use Rattle.paper.specs.Calls.{two_refused, pass_refused, settle_refused, ahead_refused, ruling_here, is_folder, conflicts};
+ghost use Rattle.paper.specs.Calls.{two_refused, pass_refused, settle_refused, ahead_refused, ruling_here, is_folder, conflicts, choice_named};
 ghost use Rattle.paper.specs.Named.{choice_number};
+ghost use Rattle.paper.specs.Acts.{choice_takes};
 ghost use Rattle.paper.specs.Widths.{check_any, two_widths, width_of, two_refused_any, pass_refused_any, settle_refused_any, ahead_refused_any};
 ghost use Rattle.vector.specs.Wideness.{columns_in};
 
@@ -143,6 +144,18 @@ fn conflict_refused<const N: usize>(
         None => Err(Refusal::Unfit),
         Some(Ruling::Conflict) => Ok(()),
         Some(_) => Err(Refusal::NoConflict),
+    }
+}
+
+// Whether the choice of this number takes the content that is handed in: new where it is neither 1 nor 2.
+#[tactic(auto, unfolding(paper::specs::Calls::choice_named))]
+pub fn choice_takes(choice: u32) -> bool
+    ensures { result ≡ choice_takes (choice_named choice) }
+{
+    match choice {
+        1 => Choice::Theirs.takes_content(),
+        2 => Choice::Own.takes_content(),
+        _ => Choice::New.takes_content(),
     }
 }
 

@@ -1,9 +1,9 @@
 // What refuses a new table, and one table alone: an event, a widening.
 ghost use Rattle.std.specs.Prelude.{◌≡◌, cond, false, eqb, IfOk};
-ghost use Rattle.paper.specs.Acts.{fits};
+ghost use Rattle.paper.specs.Acts.{fits, takes_content};
 ghost use Rattle.paper.specs.Words.{kind_of};
 ghost use Rattle.paper.specs.Refusals.{number_in};
-ghost use Rattle.paper.specs.Calls.{new_refused, event_refused};
+ghost use Rattle.paper.specs.Calls.{new_refused, event_named, event_refused};
 ghost use Rattle.paper.specs.Named.{event_number};
 ghost use Rattle.paper.specs.Widths;
 ghost use Rattle.paper.specs.Widths.{width_of, widen_refused};
@@ -55,9 +55,35 @@ pub fn widen_refused(table: &[u32], wider: &[u32]) -> Result<(), Refusal>
     Ok(())
 }
 
+// The event that a number names: removes where it is neither 1 nor 2.
+#[tactic(auto, unfolding(paper::specs::Calls::event_named))]
+fn event_of(event: u32) -> Event
+    ensures { result ≡ event_named event }
+{
+    match event {
+        1 => Event::Creates,
+        2 => Event::Changes,
+        _ => Event::Removes,
+    }
+}
+
+// Does the event of this number fit a row of this kind?
+pub fn fits_kind(event: u32, kind: u32) -> bool
+    ensures { result ≡ cond (eqb kind 3) false (fits (event_named event) (kind_of kind)) }
+{
+    fits_row(event_of(event), kind)
+}
+
+// Whether the event of this number takes the content that is handed in.
+pub fn takes_content(event: u32) -> bool
+    ensures { result ≡ takes_content (event_named event) }
+{
+    event_of(event).takes_content()
+}
+
 // Does an event fit a row of this kind?
 #[tactic(auto, unfolding(paper::specs::Acts::fits, paper::specs::Words::kind_of, paper::specs::Acts::is_live))]
-pub fn fits_kind(event: Event, kind: u32) -> bool
+fn fits_row(event: Event, kind: u32) -> bool
     ensures { result ≡ cond (eqb kind 3) false (fits event (kind_of kind)) }
 {
     if kind == Row::FOLDER {
@@ -88,7 +114,7 @@ fn event_refused_at<const N: usize>(
     if table[Head::ROWS] <= row {
         return Err(Refusal::NoSuchRow);
     }
-    if !fits_kind(named, table[(row as usize + 1) * (Row::FLOOR + 4 * N)]) {
+    if !fits_row(named, table[(row as usize + 1) * (Row::FLOOR + 4 * N)]) {
         return Err(Refusal::Unfit);
     }
     counter_refused(table)?;

@@ -2,12 +2,11 @@
 use Prim.Native.Nat.{◌≤◌}
 use mathlib.Core.Path.{ap}
 use native.Mathlib.Omega.{arith}
-use lib.ListN.{length-set, length-take, length-drop}
 use Rattle.paper.specs.Words.{table_of}
 use Rattle.paper.specs.Calls.{event_named, event_done}
 use Rattle.paper.specs.Named.{event_number}
 use Rattle.order.proofs.RowPlaces.{Begins, begins}
-use Rattle.mend.proofs.PutInPlace.{Changed, siblings, same_long}
+use Rattle.mend.proofs.PutInPlace.{Changed, siblings}
 use Rattle.mend.proofs.SheetInPlace.{put_row}
 use Rattle.event.proofs.EventAtWords.{EventFits, Room, event_facts, event_room, event_changed, written_named}
 use Rattle.event.proofs.make_event.Goals as goal
@@ -45,12 +44,6 @@ bounds-t-1 g c = omega (arith, room g (goal.at.bounds-t-1 g c).Start)
 pub ticking-ticked-requires : goal.ticking-ticked-requires
 ticking-ticked-requires g c = omega (arith, (room g (goal.at.ticking-ticked-requires g c).Start).counter, c.type_inv.t 1)
 
-pub overflow_mul-width : goal.overflow_mul-width
-overflow_mul-width g c = let s = (goal.at.overflow_mul-width g c).Start in omega (arith, few g s)
-
-pub overflow_add-width : goal.overflow_add-width
-overflow_add-width g c = let s = (goal.at.overflow_add-width g c).Start in omega (arith, few g s)
-
 pub overflow_add-from : goal.overflow_add-from
 overflow_add-from g c = let s = (goal.at.overflow_add-from g c).Start in omega (arith, at g s)
 
@@ -63,33 +56,11 @@ overflow_add-from-2 g c = let s = (goal.at.overflow_add-from-2 g c).Start in ome
 pub offset_bounds-t-from : goal.offset_bounds-t-from
 offset_bounds-t-from g c = let s = (goal.at.offset_bounds-t-from g c).Start in omega (arith, at g s)
 
-pub slice_bounds-write_event-count : goal.slice_bounds-write_event-count
-slice_bounds-write_event-count g c = omega arith
-
 pub slice_bounds-write_event-end : goal.slice_bounds-write_event-end
 slice_bounds-write_event-end g c = let s = (goal.at.slice_bounds-write_event-end g c).Start in (at g s).room
 
-pub write_event-requires : goal.write_event-requires
-write_event-requires g c = let s = (goal.at.write_event-requires g c).Start in simp (length-take, length-drop) (omega (arith, (at g s).room))
-
-pub bounds-t-1-2 : goal.bounds-t-1-2
-bounds-t-1-2 g c = omega (arith, simp length-set at (done g (goal.at.bounds-t-1-2 g c).After-write_event).room)
-
-pub offset_bounds-t-width : goal.offset_bounds-t-width
-offset_bounds-t-width g c = let s = (goal.at.offset_bounds-t-width g c).Start in omega (arith, few g s)
-
-pub slice_bounds-mend_above-count : goal.slice_bounds-mend_above-count
-slice_bounds-mend_above-count g c = (done g (goal.at.slice_bounds-mend_above-count g c).After-write_event).room
-
-pub slice_bounds-mend_above-start : goal.slice_bounds-mend_above-start
-slice_bounds-mend_above-start g c = (done g (goal.at.slice_bounds-mend_above-start g c).After-write_event).room
-
-pub mend_above-requires : goal.mend_above-requires
-mend_above-requires g c =
-    let w = (goal.at.mend_above-requires g c).After-write_event in let y = siblings (done g w) in record { siblings = y.0; columns_in_bounds = (y.1, c.requires.1) }
-
-pub shape_of-t : goal.shape_of-t
-shape_of-t g c = let w = (goal.at.shape_of-t g c).After-write_event in same_long (done g w) c.mend_above.new.t c.mend_above.auto.t
+pub mend_above-requires-clause-siblings : goal.mend_above-requires-clause-siblings
+mend_above-requires-clause-siblings g c = (siblings (done g (goal.at.mend_above-requires-clause-siblings g c).After-write_event)).0
 
 pub returns : goal.returns
 unfolding table_of

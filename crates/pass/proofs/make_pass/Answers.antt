@@ -1,14 +1,13 @@
 -- The clocks and the floors above, the walk, the folders above.
-use Prim.Native.Nat.{◌+◌, ◌-◌, ◌*◌, ◌≤◌}
+use Prim.Native.Nat.{◌+◌, ◌-◌, ◌*◌}
 use native.Mathlib.Omega.{arith}
 use lib.ListN.{length}
 use borrow.Rule.Slice.PartMut.{put_mid}
 use Rattle.paper.specs.Columns.{vec}
 use Rattle.paper.specs.Words.{wide, Table, table_of}
-use Rattle.paper.specs.Devices.{devices}
 use Rattle.paper.specs.Calls.{pass_done}
 use Rattle.walk.specs.Parts.{Passed}
-use Rattle.mend.proofs.PutInPlace.{Changed, siblings, same_long}
+use Rattle.mend.proofs.PutInPlace.{Changed, siblings}
 use Rattle.pass.proofs.PassedWords.{Begun, Room, both, single_both, accepted, pass_room, pass_fits, pass_begins, count_few, pass_changed, passed_all}
 use Rattle.pass.proofs.make_pass.Goals as goal
 use Rattle.pass.proofs.make_pass.Given.{Over}
@@ -16,9 +15,6 @@ use Rattle.pass.proofs.make_pass.Goals.{After-above_row-ua, After-above_row-ub, 
 
 room : (g : Over) (c : Start g) → Room (wide g.row.N) c.args.source.now c.args.target.now c.args.row (length c.args.answers.now)
 room g c = pass_room g.row.N _ _ _ _ c.requires.0
-
-few : (g : Over) (c : Start g) → g.row.N ≤ devices
-few g c = c.args.w.few
 
 abbrev a : (g : Over) → Start g → Table
 a g s = table_of g.row.N s.args.source.now
@@ -66,12 +62,6 @@ pub above_row-ub-requires : goal.above_row-ub-requires
 above_row-ub-requires g c =
     let s = (goal.at.above_row-ub-requires g c).Start in let p = accepted g.row.N _ _ _ _ c.requires.0 in (omega arith, (p.target, p.in_target))
 
-pub overflow_mul-width : goal.overflow_mul-width
-overflow_mul-width g c = let h = few g (goal.at.overflow_mul-width g c).Start in omega arith
-
-pub overflow_add-width : goal.overflow_add-width
-overflow_add-width g c = let h = few g (goal.at.overflow_add-width g c).Start in omega arith
-
 pub overflow_add-from : goal.overflow_add-from
 overflow_add-from g c = omega (arith, room g (goal.at.overflow_add-from g c).Start)
 
@@ -96,12 +86,9 @@ offset_bounds-target-from g c = omega (arith, room g (goal.at.offset_bounds-targ
 pub slice_bounds-pass_row-end-2 : goal.slice_bounds-pass_row-end-2
 slice_bounds-pass_row-end-2 g c = (room g (goal.at.slice_bounds-pass_row-end-2 g c).Start).in_target
 
-pub pass_row-looked-requires : goal.pass_row-looked-requires
-pass_row-looked-requires g c =
-    record { width = c.requires.1; row_parts = pass_begins g.row.N _ _ _ _ c.requires.0 (begun g (goal.at.pass_row-looked-requires g c).After-above_row-ub) }
-
-pub offset_bounds-target-width : goal.offset_bounds-target-width
-offset_bounds-target-width g c = let h = few g (goal.at.offset_bounds-target-width g c).Start in omega arith
+pub pass_row-looked-requires-clause-row_parts : goal.pass_row-looked-requires-clause-row_parts
+pass_row-looked-requires-clause-row_parts g c =
+    pass_begins g.row.N _ _ _ _ c.requires.0 (begun g (goal.at.pass_row-looked-requires-clause-row_parts g c).After-above_row-ub)
 
 pub slice_bounds-mend_above-count : goal.slice_bounds-mend_above-count
 slice_bounds-mend_above-count g c = (done g (goal.at.slice_bounds-mend_above-count g c).After-pass_row-looked).room
@@ -116,12 +103,6 @@ mend_above-requires g c =
 pub overflow_cast-result : goal.overflow_cast-result
 overflow_cast-result g c =
     omega (arith, count_few g.row.N _ _ _ _ c.requires.0 (begun g (goal.at.overflow_cast-result g c).After-above_row-ub) (walked g (goal.at.overflow_cast-result g c).After-pass_row-looked))
-
-pub shape_of-target : goal.shape_of-target
-shape_of-target g c = let m = c.mend_above in same_long (done g (goal.at.shape_of-target g c).After-pass_row-looked) m.new.t m.auto.t
-
-pub shape_of-answers : goal.shape_of-answers
-shape_of-answers g c = c.pass_row-looked.auto.answers
 
 pub returns : goal.returns
 returns g c =

@@ -1,22 +1,18 @@
 -- The row, the counter, the folders above.
-use Prim.Native.Nat.{◌≤◌}
 use mathlib.Core.Path.{ap}
 use native.Mathlib.Omega.{arith}
-use lib.ListN.{length-set, length-take, length-drop}
+use lib.ListN.{length-take, length-drop}
 use Rattle.paper.specs.Words.{wide, table_of}
 use Rattle.paper.specs.Calls.{choice_named, settle_done}
 use Rattle.paper.specs.Named.{choice_number}
 use Rattle.laws.proofs.Tables.{check_facts}
 use Rattle.two.proofs.TwoTables.{Room, Paired, paired, two_room}
-use Rattle.mend.proofs.PutInPlace.{Changed, siblings, same_long}
+use Rattle.mend.proofs.PutInPlace.{Changed, siblings}
 use Rattle.mend.proofs.SheetInPlace.{put_row}
 use Rattle.settle.proofs.SettlingAtWords.{SettleFits, settle_facts, settle_changed, settled_named}
 use Rattle.settle.proofs.make_settle.Goals as goal
 use Rattle.settle.proofs.make_settle.Given.{Over}
 use Rattle.settle.proofs.make_settle.Goals.{After-settle_row-ticked, Start}
-
-few : (g : Over) (c : Start g) → g.row.N ≤ 16
-few g c = c.args.w.few
 
 fits : (g : Over) (c : Start g) → SettleFits g.row.N c.args.source.now c.args.target.now c.args.row (choice_number c.args.choice)
 fits g c = settle_facts g.row.N _ _ _ _ _ c.requires.0
@@ -36,12 +32,6 @@ done g c =
     let s = (goal.at.After-settle_row-ticked g c).Start in
     settle_changed _ _ _ _ _ _ (fits g s) _ c.settle_row-ticked.new.r c.settle_row-ticked.result c.known_time-known.ensures
     (settled_named _ _ _ _ _ _ _ _ _ c.settle_row-ticked.ensures)
-
-pub overflow_mul-width : goal.overflow_mul-width
-overflow_mul-width g c = omega (arith, few g (goal.at.overflow_mul-width g c).Start)
-
-pub overflow_add-width : goal.overflow_add-width
-overflow_add-width g c = omega (arith, few g (goal.at.overflow_add-width g c).Start)
 
 pub overflow_add-at : goal.overflow_add-at
 overflow_add-at g c = omega (arith, room g (goal.at.overflow_add-at g c).Start)
@@ -68,9 +58,6 @@ offset_bounds-source-at g c = let s = (goal.at.offset_bounds-source-at g c).Star
 pub slice_bounds-settle_row-end : goal.slice_bounds-settle_row-end
 slice_bounds-settle_row-end g c = let s = (goal.at.slice_bounds-settle_row-end g c).Start in (room g s).in_source
 
-pub offset_bounds-target-at : goal.offset_bounds-target-at
-offset_bounds-target-at g c = let s = (goal.at.offset_bounds-target-at g c).Start in omega (arith, room g s)
-
 pub slice_bounds-settle_row-end-2 : goal.slice_bounds-settle_row-end-2
 slice_bounds-settle_row-end-2 g c = let s = (goal.at.slice_bounds-settle_row-end-2 g c).Start in (room g s).in_target
 
@@ -85,24 +72,8 @@ settle_row-ticked-requires g c =
       ),
     )
 
-pub bounds-target-1-2 : goal.bounds-target-1-2
-bounds-target-1-2 g c = omega (arith, simp length-set at (done g (goal.at.bounds-target-1-2 g c).After-settle_row-ticked).room)
-
-pub offset_bounds-target-width : goal.offset_bounds-target-width
-offset_bounds-target-width g c = let s = (goal.at.offset_bounds-target-width g c).Start in omega (arith, few g s)
-
-pub slice_bounds-mend_above-count : goal.slice_bounds-mend_above-count
-slice_bounds-mend_above-count g c = (done g (goal.at.slice_bounds-mend_above-count g c).After-settle_row-ticked).room
-
-pub slice_bounds-mend_above-start : goal.slice_bounds-mend_above-start
-slice_bounds-mend_above-start g c = (done g (goal.at.slice_bounds-mend_above-start g c).After-settle_row-ticked).room
-
-pub mend_above-requires : goal.mend_above-requires
-mend_above-requires g c =
-    let r = (goal.at.mend_above-requires g c).After-settle_row-ticked in let y = siblings (done g r) in record { siblings = y.0; columns_in_bounds = (y.1, c.requires.1) }
-
-pub shape_of-target : goal.shape_of-target
-shape_of-target g c = let r = (goal.at.shape_of-target g c).After-settle_row-ticked in same_long (done g r) c.mend_above.new.t c.mend_above.auto.t
+pub mend_above-requires-clause-siblings : goal.mend_above-requires-clause-siblings
+mend_above-requires-clause-siblings g c = (siblings (done g (goal.at.mend_above-requires-clause-siblings g c).After-settle_row-ticked)).0
 
 pub returns : goal.returns
 unfolding table_of

@@ -112,9 +112,8 @@ pass_row-returns-then-source-ne-FOLDER t c p x f =
 pub pass_row-may_pass_over-requires-clause-rows : goal.pass_row-may_pass_over-requires-clause-rows
 pass_row-may_pass_over-requires-clause-rows t c = (there t (goal.at.pass_row-may_pass_over-requires-clause-rows t c).Start).rows
 
-pub pass_row-over_row-requires : goal.pass_row-over_row-requires
-pass_row-over_row-requires t c =
-    let h = there t (goal.at.pass_row-over_row-requires t c).Start in record { width = c.requires.width; rows = (h.rows, h.source) }
+pub pass_row-over_row-requires-clause-rows : goal.pass_row-over_row-requires-clause-rows
+pass_row-over_row-requires-clause-rows t c = let h = there t (goal.at.pass_row-over_row-requires-clause-rows t c).Start in (h.rows, h.source)
 
 pub pass_row-returns-then-may_pass_over : goal.pass_row-returns-then-may_pass_over
 pass_row-returns-then-may_pass_over t c p x f =

@@ -1,33 +1,8 @@
 -- Past both checks the two widths that were read decide.
 use mathlib.Core.Path.{sym, ap, ◌∙◌}
-use Rattle.paper.specs.Refusals.{when}
 use Rattle.vector.specs.Wideness.{columns_in}
-use Rattle.refused.proofs.FirstRefused.{widths_said, both_checked}
+use Rattle.refused.proofs.FirstRefused.{both_checked}
 use Rattle.refused.proofs.of_pair.one_width.Goals as goal
-
-pub returns-in-Eight-Eight-clause-number : goal.returns-in-Eight-Eight-clause-number
-unfolding when
-returns-in-Eight-Eight-clause-number c =
-    let s = c.in_ok-columns.ensures in let t = c.in_ok-other.ensures in
-    widths_said _ _ 8 8 s.number t.number (ap columns_in (sym c.in-Eight-Eight.is-0) ∙ s.width) (ap columns_in (sym c.in-Eight-Eight.is-1) ∙ t.width)
-
-pub returns-in-Sixteen-Sixteen-clause-number : goal.returns-in-Sixteen-Sixteen-clause-number
-unfolding when
-returns-in-Sixteen-Sixteen-clause-number c =
-    let s = c.in_ok-columns.ensures in let t = c.in_ok-other.ensures in
-    widths_said _ _ 16 16 s.number t.number (ap columns_in (sym c.in-Sixteen-Sixteen.is-0) ∙ s.width) (ap columns_in (sym c.in-Sixteen-Sixteen.is-1) ∙ t.width)
-
-pub returns-in_default-clause-number : goal.returns-in_default-clause-number
-unfolding when
-returns-in_default-clause-number c =
-    let s = c.in_ok-columns.ensures in let t = c.in_ok-other.ensures in
-    widths_said _ _ 8 16 s.number t.number (ap columns_in (sym c.in_default.is-0) ∙ s.width) (ap columns_in (sym c.in_default.is-1) ∙ t.width)
-
-pub returns-in_default-2-clause-number : goal.returns-in_default-2-clause-number
-unfolding when
-returns-in_default-2-clause-number c =
-    let s = c.in_ok-columns.ensures in let t = c.in_ok-other.ensures in
-    widths_said _ _ 16 8 s.number t.number (ap columns_in (sym c.in_default.is-0) ∙ s.width) (ap columns_in (sym c.in_default.is-1) ∙ t.width)
 
 pub returns-in-Eight-Eight-clause-checked : goal.returns-in-Eight-Eight-clause-checked
 returns-in-Eight-Eight-clause-checked c =

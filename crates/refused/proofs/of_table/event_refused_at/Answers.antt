@@ -30,12 +30,12 @@ pub bounds-table-row : goal.bounds-table-row
 bounds-table-row g c =
     let h : c.args.row < get_or c.args.table.now 2 0 = omega (arith, c.if-table-row.false) in omega (arith, (begins _ _ _ c.args.w.few (sym c.in_ok-check_at.ensures) h).room)
 
-pub returns-then-not-fits_kind-clause-number : goal.returns-then-not-fits_kind-clause-number
-returns-then-not-fits_kind-clause-number g c =
+pub returns-then-not-fits_row-clause-number : goal.returns-then-not-fits_row-clause-number
+returns-then-not-fits_row-clause-number g c =
     let e = sym c.in_ok-check_at.ensures in
     let h : c.args.row < get_or c.args.table.now 2 0 = omega (arith, c.if-table-row.false) in
     sym (event_said _ _ _ _ _ _ _ c.in_ok-named.ensures c.takes_content.ensures ∙ first_next _ _ e ∙ first_next _ _ (sym c.in_ok-content_refused.ensures) ∙ first_passed _ _ (row_there _ _ e _ h)
-    ∙ first_failed 9 _ (fits_row _ _ e _ _ h ∙ sym c.fits_kind.ensures ∙ c.if-not-fits_kind.true))
+    ∙ first_failed 9 _ (fits_row _ _ e _ _ h ∙ sym c.fits_row.ensures ∙ c.if-not-fits_row.true))
 
 pub returns-in_err-counter_refused-clause-number : goal.returns-in_err-counter_refused-clause-number
 unfolding table_of
@@ -43,7 +43,7 @@ returns-in_err-counter_refused-clause-number g c =
     let e = sym c.in_ok-check_at.ensures in
     let h : c.args.row < get_or c.args.table.now 2 0 = omega (arith, c.if-table-row.false) in
     let s = event_said _ _ _ _ _ _ _ c.in_ok-named.ensures c.takes_content.ensures ∙ first_next _ _ e ∙ first_next _ _ (sym c.in_ok-content_refused.ensures) ∙ first_passed _ _ (row_there _ _ e _ h)
-    ∙ first_held _ _ (fits_row _ _ e _ _ h ∙ sym c.fits_kind.ensures ∙ c.if-not-fits_kind.false) in rw s (grind (arith, common_steps, refused_here))
+    ∙ first_held _ _ (fits_row _ _ e _ _ h ∙ sym c.fits_row.ensures ∙ c.if-not-fits_row.false) in rw s (grind (arith, common_steps, refused_here))
 
 pub returns-clause-number : goal.returns-clause-number
 unfolding table_of
@@ -51,4 +51,4 @@ returns-clause-number g c =
     let e = sym c.in_ok-check_at.ensures in
     let h : c.args.row < get_or c.args.table.now 2 0 = omega (arith, c.if-table-row.false) in
     sym (event_said _ _ _ _ _ _ _ c.in_ok-named.ensures c.takes_content.ensures ∙ first_next _ _ e ∙ first_next _ _ (sym c.in_ok-content_refused.ensures) ∙ first_passed _ _ (row_there _ _ e _ h)
-    ∙ first_held _ _ (fits_row _ _ e _ _ h ∙ sym c.fits_kind.ensures ∙ c.if-not-fits_kind.false) ∙ first_one _ ∙ sym c.in_ok-counter_refused.ensures)
+    ∙ first_held _ _ (fits_row _ _ e _ _ h ∙ sym c.fits_row.ensures ∙ c.if-not-fits_row.false) ∙ first_one _ ∙ sym c.in_ok-counter_refused.ensures)

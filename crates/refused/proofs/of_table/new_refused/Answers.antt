@@ -38,12 +38,6 @@ returns-then-not-plan_fits g c =
     sym (first_passed _ _ (device g (goal.at.returns-then-not-plan_fits g c).Else-device)
     ∙ first_failed 1 _ (plan g (goal.at.returns-then-not-plan_fits g c).After-plan_fits ∙ c.if-not-plan_fits.true))
 
-pub overflow_mul-width : goal.overflow_mul-width
-overflow_mul-width g c = omega (arith, c.args.w.few)
-
-pub overflow_add-width : goal.overflow_add-width
-overflow_add-width g c = omega (arith, c.args.w.few)
-
 pub overflow_mul-plan : goal.overflow_mul-plan
 overflow_mul-plan g c = omega (arith, small g c, c.args.w.few)
 

@@ -1,10 +1,9 @@
 -- A test that fails refutes one fact of a head that fits; past the last test the rest decides.
-use lib.ListN.{take, drop, get_or}
+use lib.ListN.{take, drop}
 use Rattle.paper.specs.Check.{blank, head_fits}
 use Rattle.paper.specs.Words.{wide}
 use Rattle.laws.proofs.Tables.{HeadFits, head_facts}
 use Rattle.table.proofs.Heads.{head_rest}
-use Rattle.vector.proofs.Parts.{words_fit, words_small}
 use Rattle.laws.proofs.Bools.{not_so}
 use native.Mathlib.Omega.{arith}
 use Prim.Native.Nat.{◌+◌, ◌-◌, ◌*◌}
@@ -28,12 +27,6 @@ returns-then-rows-eq0 g c = let s = (goal.at.returns-then-rows-eq0 g c).Start in
 
 pub returns-then-rows-gt-MOST_ROWS : goal.returns-then-rows-gt-MOST_ROWS
 returns-then-rows-gt-MOST_ROWS g c = let s = (goal.at.returns-then-rows-gt-MOST_ROWS g c).Start in bad g s (λ f. omega arith)
-
-pub overflow_mul-rows : goal.overflow_mul-rows
-overflow_mul-rows g c = omega (arith, words_fit (get_or c.args.t.now 2 0) (wide g.row.N) (omega (arith, c.if-rows-gt-MOST_ROWS)) (omega (arith, c.args.w.few)))
-
-pub overflow_add-rows : goal.overflow_add-rows
-overflow_add-rows g c = omega (arith, words_small (get_or c.args.t.now 2 0) (wide g.row.N) (omega (arith, c.if-rows-gt-MOST_ROWS)) (omega (arith, c.args.w.few)))
 
 pub returns-then-t-rows : goal.returns-then-t-rows
 returns-then-t-rows g c = let s = (goal.at.returns-then-t-rows g c).Start in bad g s (λ f. c.if-t-rows.true f.long)

@@ -23,12 +23,6 @@ in_source g c = (begin_both _ _ _ _ c.args.w.few c.requires).0
 in_target : (g : Over) (c : Start g) → Begins g.row.N c.args.target.now c.args.row
 in_target g c = (begin_both _ _ _ _ c.args.w.few c.requires).1
 
-pub overflow_mul-width : goal.overflow_mul-width
-overflow_mul-width g c = let h = c.args.w.few in omega arith
-
-pub overflow_add-width : goal.overflow_add-width
-overflow_add-width g c = let h = c.args.w.few in omega arith
-
 pub overflow_add-at : goal.overflow_add-at
 overflow_add-at g c = omega (arith, (in_target g (goal.at.overflow_add-at g c).Start).low)
 
@@ -67,9 +61,6 @@ offset_bounds-source-at g c = let r = in_target g (goal.at.offset_bounds-source-
 
 pub slice_bounds-judge-end : goal.slice_bounds-judge-end
 slice_bounds-judge-end g c = omega (arith, (in_source g (goal.at.slice_bounds-judge-end g c).Start).room)
-
-pub offset_bounds-target-at-2 : goal.offset_bounds-target-at-2
-offset_bounds-target-at-2 g c = let r = in_target g (goal.at.offset_bounds-target-at-2 g c).Start in omega (arith, r.room, r.few)
 
 pub slice_bounds-judge-end-2 : goal.slice_bounds-judge-end-2
 slice_bounds-judge-end-2 g c = omega (arith, (in_target g (goal.at.slice_bounds-judge-end-2 g c).Start).room)

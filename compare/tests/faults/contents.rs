@@ -6,7 +6,7 @@ use second::layout::word;
 use second::trial::look::{kind, place, rows};
 use second::Content;
 
-use super::{found, keep_classes, pass_and, refused};
+use super::{found, keep_classes, pass_and, refused, told_as};
 
 #[test]
 fn copy_leaves_the_class_behind() {
@@ -68,10 +68,7 @@ fn live_sheet_without_a_mark() {
 fn class_judged_before_the_event() {
     let event = |table: &mut [u32], row: u32, event: u32, content: Content| {
         let answer = (SECOND.event)(table, row, event, content);
-        match answer.number {
-            16 if content.class > 9 => refused(21),
-            _ => answer,
-        }
+        told_as(answer, 16, 21, || content.class > 9)
     };
     found(Program { event, ..SECOND }, Call::Event, 1);
 }
@@ -80,10 +77,7 @@ fn class_judged_before_the_event() {
 fn class_judged_after_the_row() {
     let event = |table: &mut [u32], row: u32, event: u32, content: Content| {
         let answer = (SECOND.event)(table, row, event, content);
-        match answer.number {
-            21 if row as usize >= rows(table) => refused(8),
-            _ => answer,
-        }
+        told_as(answer, 21, 8, || row as usize >= rows(table))
     };
     found(Program { event, ..SECOND }, Call::Event, 1);
 }
@@ -115,10 +109,7 @@ fn own_refused_for_its_class() {
 fn mark_judged_before_the_class() {
     let settle = |source: &[u32], target: &mut [u32], row: u32, choice: u32, content: Content| {
         let answer = (SECOND.settle)(source, target, row, choice, content);
-        match answer.number {
-            21 if content.mark == 0 => refused(22),
-            _ => answer,
-        }
+        told_as(answer, 21, 22, || content.mark == 0)
     };
     found(Program { settle, ..SECOND }, Call::Settle, 1);
 }

@@ -52,6 +52,14 @@ fn refused(number: u32) -> Answer {
     Answer { number, count: 0 }
 }
 
+/// The answer, or a refusal by another number where it has this one and something holds.
+fn told_as(answer: Answer, number: u32, other: u32, holds: impl Fn() -> bool) -> Answer {
+    if answer.number == number && holds() {
+        return refused(other);
+    }
+    answer
+}
+
 /// A pass after which something is done to the target's words, by those of the source and of the target before it.
 fn pass_and(
     source: &[u32],

@@ -6,7 +6,7 @@ use second::layout::{head, Time, Width};
 use second::trial::look::{counts, is_folder, rows, size};
 use second::Content;
 
-use super::{done, forget_a_floor, found, refused, widen_and};
+use super::{done, forget_a_floor, found, refused, told_as, widen_and};
 
 #[test]
 fn devices_of_new_tables_end_at_7() {
@@ -57,10 +57,7 @@ fn heads_tell_8_or_16() {
 fn widths_compared_after_places() {
     let pass = |source: &[u32], target: &mut [u32], row: u32, answers: &mut [u32]| {
         let answer = (SECOND.pass)(source, target, row, answers);
-        if answer.number == 19 && places_differ(source, target) {
-            return refused(4);
-        }
-        answer
+        told_as(answer, 19, 4, || places_differ(source, target))
     };
     found(Program { pass, ..SECOND }, Call::Pass, 2);
 }
@@ -75,10 +72,7 @@ fn places_differ(one: &[u32], other: &[u32]) -> bool {
 fn source_read_at_the_targets_width() {
     let settle = |source: &[u32], target: &mut [u32], row: u32, choice: u32, content: Content| {
         let answer = (SECOND.settle)(source, target, row, choice, content);
-        if answer.number == 19 {
-            return refused(1);
-        }
-        answer
+        told_as(answer, 19, 1, || true)
     };
     found(Program { settle, ..SECOND }, Call::Settle, 1);
 }

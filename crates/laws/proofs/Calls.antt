@@ -1,8 +1,8 @@
 -- Laws of the calls: the number returned is the refusal's; a refused call leaves its buffers as they were; what two
 -- tables that are accepted are like.
-use Prim.Native.Nat.{ℕ, suc, ◌<◌}
+use Prim.Native.Nat.{ℕ, suc, ◌≤◌, ◌<◌}
 use mathlib.Core.Path.{◌≡◌, refl, ap, ◌∙◌}
-use mathlib.Core.List.{List, []}
+use mathlib.Core.List.{List, [], ◌∷◌}
 use mathlib.Core.Bool.{Bool, true, false, false≢true}
 use native.Mathlib.Omega.{arith}
 use borrow.Author.Tests.{eqb-true, eqb-false, le-leb, leb-false, lt-ltb, ltb-false}
@@ -11,7 +11,7 @@ use mathlib.Core.Option.{Option, none, some, map}
 use Rattle.paper.specs.Tree.{size, subtree, sheet_here, shaped, Sheet, above, later}
 use Rattle.paper.specs.Walk.{Two, answers, looked}
 use Rattle.paper.specs.Words.{Table, table_of, written}
-use Rattle.paper.specs.Refusals.{tens, unless}
+use Rattle.paper.specs.Refusals.{first, when, tens, unless}
 use Rattle.paper.specs.Check.{check_of, content_fits}
 use Rattle.paper.specs.declared.Content.{Content}
 use Rattle.paper.specs.Devices.{most_class}
@@ -129,6 +129,18 @@ content_taken false m e h = absurd (false≢true h)
 pub ahead_done : (w : ℕ) (s t : List ℕ) (row : ℕ) → ahead_refused w s t row ≡ 0 → ahead_of w s t row ≡ masks_of (ahead_here w (table_of w s) (table_of w t) row)
 unfolding ahead_of
 ahead_done w s t row e = unless_none (ahead_refused w s t row) _ _ e
+
+-- a check gives at most 3
+three_small : (a b c : Bool) → first (when a 1 ∷ when b 2 ∷ when c 3 ∷ []) ≤ 3
+unfolding first when
+three_small true b c = omega arith
+three_small false true c = omega arith
+three_small false false true = omega arith
+three_small false false false = omega arith
+
+pub check_small : (w : ℕ) (t : List ℕ) → check_of w t ≤ 3
+unfolding check_of
+check_small w t = three_small _ _ _
 
 -- TWO TABLES that are accepted: both good and written as they stand, of one shape, of two devices, neither naming a later
 -- count of the other's device than its counter; and the row is there

@@ -1,5 +1,5 @@
 -- Laws of refusals: which number is the first, and what follows where there is none.
-use Prim.Native.Nat.{ℕ, zero, suc}
+use Prim.Native.Nat.{ℕ, zero, suc, ◌+◌}
 use mathlib.Core.Path.{◌≡◌, refl, ap, ◌∙◌}
 use mathlib.Core.List.{List, [], ◌∷◌, ◌++◌}
 use mathlib.Core.Bool.{Bool, true, false, not, false≢true, true≢false}
@@ -91,6 +91,11 @@ pub tens_passed : (n : ℕ) (r : List ℕ) → n ≡ 0 → first (tens n ∷ r) 
 unfolding tens
 tens_passed n r e = first_next _ r (ap tens e)
 
+pub tens_met : (n : ℕ) (r : List ℕ) → (n ≡ 0 → ⊥) → first (tens n ∷ r) ≡ n + 10
+unfolding tens
+tens_met zero r h = absurd (h refl)
+tens_met (suc n) r h = first_here (11 + n) r (λ z. omega (arith, z)) ∙ omega arith
+
 -- what comes of a call: the work where nothing refuses, else the refusal
 pub unless_none : {A : Type 0} (n : ℕ) (refused done : A) → n ≡ 0 → unless n refused done ≡ done
 unfolding unless
@@ -119,6 +124,12 @@ unfolding first
 first_flat [] r = refl
 first_flat (zero ∷ l) r = first_flat l r
 first_flat (suc n ∷ l) r = refl
+
+pub first_within : (a n : ℕ) (r : List ℕ) → first (a ∷ first (n ∷ r) ∷ []) ≡ first (first (a ∷ n ∷ []) ∷ r)
+unfolding first
+first_within zero zero r = first_one (first r)
+first_within zero (suc n) r = refl
+first_within (suc a) n r = refl
 
 -- a refusal is given where it applies and none before it in the order does
 pub first_order : (before rest : List ℕ) (n : ℕ) → blank before ≡ true → (n ≡ 0 → ⊥) → first (before ++ n ∷ rest) ≡ n

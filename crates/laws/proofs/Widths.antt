@@ -3,7 +3,7 @@
 use Prim.Native.Nat.{ℕ, zero, suc, ◌+◌, ◌*◌, ◌≤◌}
 use mathlib.Core.Path.{◌≡◌, refl, sym, ap, ap₂, ◌∙◌, subst}
 use mathlib.Core.Bool.{Bool, true, false, not, ◌||◌, cond}
-use mathlib.Core.List.{List, []}
+use mathlib.Core.List.{List, [], ◌∷◌}
 use mathlib.Core.Logic.{inl, inr}
 use Prim.{tt}
 use native.Mathlib.Omega.{arith}
@@ -21,14 +21,14 @@ use Rattle.paper.specs.declared.Kind.TheVariants.{Never as never, Live as live, 
 use Rattle.paper.specs.Rules.{Row}
 use Rattle.paper.specs.Tree.{end, sheet, folder, size, Tree}
 use Rattle.paper.specs.Words.{wide, Table, table_of, sign, written}
-use Rattle.paper.specs.Refusals.{when, tens, unless}
+use Rattle.paper.specs.Refusals.{first, when, tens, unless}
 use Rattle.paper.specs.Check.{proper, laid, check_of}
 use Rattle.paper.specs.Good.{GoodFloor, Good, GoodTable}
-use Rattle.paper.specs.Calls.{Changed, Passed, Masked, new_of, pass_of, ruling_here, settle_of, ahead_refused, ahead_here, masks_of, ahead_of}
+use Rattle.paper.specs.Calls.{Changed, Passed, Masked, new_of, two_refused, pass_of, ruling_here, settle_of, ahead_refused, ahead_here, masks_of, ahead_of}
 use Rattle.paper.specs.Widths.{narrow_columns, wide_columns, Width, width_of, table_any, check_any, eight_or_sixteen, new_any, widen_refused, widen_of}
-use Rattle.paper.specs.Widths.{two_widths, widths_then, pass_any, settle_any, ahead_any}
+use Rattle.paper.specs.Widths.{two_widths, widths_then, two_refused_any, pass_any, settle_any, ahead_any}
 use Rattle.laws.proofs.Bools.{and_both, both_and}
-use Rattle.laws.proofs.Refusals.{first_both, none_so, when_none, tens_none, unless_none, unless_some, unless_at, unless_number}
+use Rattle.laws.proofs.Refusals.{first_both, first_next, first_one, first_flat, first_within, none_so, when_none, tens_none, unless_none, unless_some, unless_at, unless_number}
 use Rattle.laws.proofs.Tables.{sign_at, table_read, written_passes, check_facts, checked_good, checked_size}
 
 -- MORE COLUMNS
@@ -208,10 +208,28 @@ two_any s t e =
     let z = first_both (when (not (eqb (width_of s) (width_of t))) 19) _ y.1 in
     record { source = x.0; target = tens_none _ y.0; one = eqb-true _ _ (none_so _ 18 z.0) }
 
+-- what refuses two tables comes before what refuses a call on them
+pub widths_first : (s t : List ℕ) (n : ℕ) (r : List ℕ) → widths_then s t (first (n ∷ r)) ≡ first (widths_then s t n ∷ r)
+unfolding widths_then
+widths_first s t n r = first_within (two_widths s t) n r
+
+-- all that refuses two tables, in one chain
+pub widths_chain : (s t : List ℕ) (n : ℕ) → widths_then s t n ≡ first (check_any s ∷ tens (check_any t) ∷ when (not (eqb (width_of s) (width_of t))) 19 ∷ n ∷ [])
+unfolding widths_then two_widths
+widths_chain s t n = first_flat (check_any s ∷ tens (check_any t) ∷ when (not (eqb (width_of s) (width_of t))) 19 ∷ []) (n ∷ [])
+
 -- nothing refuses: neither the tables and their widths, nor what comes then
 pub widths_none : (s t : List ℕ) (n : ℕ) → widths_then s t n ≡ 0 → (two_widths s t ≡ 0) × (n ≡ 0)
 unfolding widths_then
 widths_none s t n e = let x = first_both (two_widths s t) _ e in (x.0, (first_both n [] x.1).0)
+
+pub widths_past : (s t : List ℕ) (n : ℕ) → two_widths s t ≡ 0 → widths_then s t n ≡ n
+unfolding widths_then
+widths_past s t n e = first_next (two_widths s t) _ e ∙ first_one n
+
+-- at the width that was read of the target
+pub two_at : (v : ℕ) (s t : List ℕ) (row : ℕ) → v ≡ width_of t → two_refused_any s t row ≡ 0 → (two_refused v s t row ≡ 0) × (v ≤ wide_columns)
+two_at v s t row e h = (ap (λ v. two_refused v s t row) e ∙ (widths_none s t _ h).1, read_few v t e)
 
 -- what the rules say at a row of two tables of one width
 abbrev pub ruling_any : List ℕ → List ℕ → ℕ → Option Ruling

@@ -29,6 +29,9 @@ sheet_at a b ua ub s t e h = rw e h
 pub over_at_lem : {v w : ℕ} (a b : Clock) (ua ub : Vec) (s t : List ℕ) {r : Bool} → w ≡ v → r ≡ over_rows v a b ua ub s t → r ≡ over_rows w a b ua ub s t
 over_at_lem a b ua ub s t e h = rw e h
 
+pub folder_at : {v w : ℕ} (a b : Clock) (ua : Vec) (s t : List ℕ) {t' : List ℕ} → w ≡ v → t' ≡ over_row v a b ua s t → t' ≡ over_row w a b ua s t
+folder_at a b ua s t e h = rw e h
+
 pub over_done_at : {v w : ℕ} (a b : Clock) (ua : Vec) (s t : List ℕ) {t' l l' : List ℕ} → w ≡ v → OverDone v a b ua s t t' l l' → OverDone w a b ua s t t' l l'
 over_done_at a b ua s t {t' = t'} {l = l} {l' = l'} e h = subst (λ k. OverDone k a b ua s t t' l l') (sym e) h
 

@@ -4,7 +4,7 @@ ghost use Rattle.std.specs.Prelude.{◌≡◌, ◌*◌, length};
 ghost use Rattle.paper.specs.Columns.{vec};
 ghost use Rattle.paper.specs.Words.{wide};
 ghost use Rattle.paper.specs.Widths;
-ghost use Rattle.leaf.specs.Leaves.{Rows, SheetDone, OverDone, over_rows};
+ghost use Rattle.leaf.specs.Leaves.{Rows, SheetDone, OverDone, over_rows, over_row};
 
 use crate::{folder, single};
 use vector::above::Above;
@@ -33,6 +33,19 @@ pub fn may_pass_over(s: &[u32], t: &[u32], a: Above, b: Above, columns: usize) -
         return folder::may_pass_over(s, t, a, b, Width::<8>::of());
     }
     folder::may_pass_over(s, t, a, b, Width::<16>::of())
+}
+
+// The row of a folder that is passed over.
+pub fn raise_folder(s: &[u32], t: &mut [u32], a: Above, b: Above, columns: usize)
+    requires width { Widths.Width columns }
+    requires rows { Rows columns s.now t.old a.clock b.clock }
+    ensures { t.new ≡ over_row columns a.clock b.clock (vec a.floors.0) s.now t.old }
+{
+    if columns == Narrow::COLUMNS {
+        folder::raise_folder(s, t, a, b, Width::<8>::of());
+        return;
+    }
+    folder::raise_folder(s, t, a, b, Width::<16>::of());
 }
 
 // A folder that is passed over, with the answers for it and for all beneath it.

@@ -19,10 +19,10 @@ pub fn may_pass_over<const N: usize>(s: &[u32], t: &[u32], a: Above, b: Above, w
     ensures { result ≡ over_rows N a.clock b.clock (vec a.floors.0) (vec b.floors.0) s.now t.now }
 {
     let newest = Vector::read(s, Row::FLOOR + N, N);
-    let least_b = full_at(t, Row::FLOOR + 2 * N, b, w);
+    let least_b = full_at(t, Row::FLOOR + 2 * N, b, N);
     if least_b.covers(newest, N) {
-        let least = full_at(s, Row::FLOOR + 2 * N, a, w);
-        let most = full_at(s, Row::FLOOR + 3 * N, a, w);
+        let least = full_at(s, Row::FLOOR + 2 * N, a, N);
+        let most = full_at(s, Row::FLOOR + 3 * N, a, N);
         return least.same(most, N);
     }
     false
@@ -33,7 +33,7 @@ pub fn raise_folder<const N: usize>(s: &[u32], t: &mut [u32], a: Above, b: Above
     requires { Rows N s.now t.old a.clock b.clock }
     ensures { t.new ≡ over_row N a.clock b.clock (vec a.floors.0) s.now t.old }
 {
-    let least = full_at(s, Row::FLOOR + 2 * N, a, w);
+    let least = full_at(s, Row::FLOOR + 2 * N, a, N);
     raise_floor(true, t, b.clock, least, w);
     let rows = Summary::of_folder(t, w);
     Summary::mend(Some(rows), t, w);

@@ -42,8 +42,8 @@ pub fn pass_sheet<const N: usize>(s: &[u32], t: &mut [u32], a: Above, b: Above, 
     requires { Rows N s.now t.old a.clock b.clock }
     ensures { SheetDone N a.clock b.clock (vec a.floors.0) (vec b.floors.0) s.now t.old result t.new }
 {
-    let ka = full_at(s, Row::FLOOR, a, w);
-    let kb = full_at(t, Row::FLOOR, b, w);
+    let ka = full_at(s, Row::FLOOR, a, N);
+    let kb = full_at(t, Row::FLOOR, b, N);
     let r = judge(s, t, ka, kb);
     let joined = r.is_joined();
     let taken = r.is_taken();

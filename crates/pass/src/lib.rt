@@ -27,8 +27,8 @@ pub fn make_pass<const N: usize>(
 {
     let a = clock_of(source);
     let b = clock_of(target);
-    let ua = above_row(source, row, w);
-    let ub = above_row(target, row, w);
+    let ua = above_row(source, row, N);
+    let ub = above_row(target, row, N);
     let width = Row::FLOOR + 4 * N;
     let from = (row + 1) * width;
     let end = from + answers.len() * width;

@@ -15,7 +15,7 @@ use Rattle.paper.specs.Order.{Raw, forest_of}
 use Rattle.paper.specs.Words.{wide, floor_at, floor_of, tree_from, table_of}
 use Rattle.paper.specs.Calls.{row_at}
 use Rattle.paper.specs.Check.{check_of}
-use Rattle.laws.proofs.Tables.{check_facts}
+use Rattle.laws.proofs.Tables.{Checked, check_facts}
 use Rattle.two.proofs.Listed.{listed, word_at, rows_on, rows_next, rows_end, rows_all}
 
 -- a column of the floor of a row, by its place in the table
@@ -45,9 +45,13 @@ module _ (w : ℕ) (c : Clock) where
     abbrev pub later_on : ℕ → Bool
     later_on i = one_later (rows_on w t i)
 
-    pub later_all : check_of w t ≡ 0 → later c (table_of w t).tree ≡ later_on 0
+    -- by what the check says of a table, and where it passes
+    pub later_checked : Checked w t → later c (table_of w t).tree ≡ later_on 0
     unfolding table_of
-    later_all e = later_listed (forest_of (wide w) (drop (wide w) t)) ∙ ap one_later (rows_all w t (check_facts w t e))
+    later_checked k = later_listed (forest_of (wide w) (drop (wide w) t)) ∙ ap one_later (rows_all w t k)
+
+    pub later_all : check_of w t ≡ 0 → later c (table_of w t).tree ≡ later_on 0
+    later_all e = later_checked (check_facts w t e)
 
     module _ (i : ℕ) (h : i < get_or t 2 0) (d : c.device < w) where
       pub later_here : c.counter < get_or t ((i + 1) * wide w + (floor_at + c.device)) 0 → later_on i ≡ true

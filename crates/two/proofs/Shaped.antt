@@ -14,7 +14,7 @@ use Rattle.paper.specs.Calls.{row_at}
 use Rattle.laws.proofs.Bools.{and_both, not_so}
 use Rattle.laws.proofs.FormedRows.{SheetRow, FolderRow, Formed, ordered_formed, cancel}
 use Rattle.paper.specs.Check.{check_of}
-use Rattle.laws.proofs.Tables.{check_facts}
+use Rattle.laws.proofs.Tables.{Checked, check_facts}
 use Rattle.two.specs.PlanNumber.{plan_number}
 use Rattle.two.proofs.Listed.{listed, length_listed, word_at, rows_on, rows_next, rows_end, rows_count, rows_all}
 
@@ -100,19 +100,24 @@ module _ (w : ℕ) (s t : List ℕ) where
   abbrev pub same_plan_on : ℕ → Bool
   same_plan_on i = same_plan (rows_on w s i) (rows_on w t i)
 
-  pub shaped_all : check_of w s ≡ 0 → check_of w t ≡ 0 → shaped (table_of w s).tree (table_of w t).tree ≡ same_plan_on 0
+  -- by what the check says of them, and where they pass it
+  pub shaped_checked : Checked w s → Checked w t → shaped (table_of w s).tree (table_of w t).tree ≡ same_plan_on 0
   unfolding table_of
-  shaped_all d e =
-      let a = check_facts w s d in
-      let b = check_facts w t e in
+  shaped_checked a b =
       mapped_shaped (sheet_of w) (floor_of w) (forest_of (wide w) (drop (wide w) s)) (forest_of (wide w) (drop (wide w) t))
       ∙ shaped_plan (wide w) 16 16 (forest_of (wide w) (drop (wide w) s)) (forest_of (wide w) (drop (wide w) t))
       (ordered_formed (wide w) (omega arith) 16 (drop (wide w) s) a.order) (ordered_formed (wide w) (omega arith) 16 (drop (wide w) t) b.order)
       ∙ ap₂ same_plan (rows_all w s a) (rows_all w t b)
 
+  pub shaped_all : check_of w s ≡ 0 → check_of w t ≡ 0 → shaped (table_of w s).tree (table_of w t).tree ≡ same_plan_on 0
+  shaped_all d e = shaped_checked (check_facts w s d) (check_facts w t e)
+
   -- as many rows in one as in the other
+  pub rows_checked : Checked w s → Checked w t → shaped (table_of w s).tree (table_of w t).tree ≡ true → get_or s 2 0 ≡ get_or t 2 0
+  rows_checked a b e = omega (arith, same_length (rows_on w s 0) (rows_on w t 0) (sym (shaped_checked a b) ∙ e), rows_count w s 0, rows_count w t 0)
+
   pub same_rows : check_of w s ≡ 0 → check_of w t ≡ 0 → shaped (table_of w s).tree (table_of w t).tree ≡ true → get_or s 2 0 ≡ get_or t 2 0
-  same_rows a b e = omega (arith, same_length (rows_on w s 0) (rows_on w t 0) (sym (shaped_all a b) ∙ e), rows_count w s 0, rows_count w t 0)
+  same_rows d e = rows_checked (check_facts w s d) (check_facts w t e)
 
   -- as many rows exactly where there are as many words
   pub rows_same : check_of w s ≡ 0 → check_of w t ≡ 0 → length s ≡ length t → get_or s 2 0 ≡ get_or t 2 0

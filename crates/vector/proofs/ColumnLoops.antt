@@ -6,9 +6,9 @@ use mathlib.Core.Bool.{Bool, true, false, not, cond, false≢true}
 use native.Mathlib.Numerals.{add-one}
 use native.Mathlib.Nat.{add-sub_cancel_left}
 use native.Mathlib.Omega.{arith}
-use lib.Dec.{eqb}
+use lib.Dec.{leb, eqb}
 use lib.Pow.{pow-add, pow_mono}
-use borrow.Author.Tests.{eq-eqb, eqb-true, eqb-false}
+use borrow.Author.Tests.{lt-leb, eq-eqb, ne_eqb, eqb-true, eqb-false}
 use lib.ListN.{length, get_or, take, drop, replicate, set, drop_of_length-le, get_or-eq_default}
 use lib.Seq.{get_or-take, get_or-drop, get_or-set_same, get_or-set_other, take_all}
 use Rattle.paper.specs.Columns.{Vec, Narrow, zeros, greatest, vec, column, columns, part, mask, alike}
@@ -68,6 +68,10 @@ column_set a d n l = fun_ext (λ j. at j (eqb j d) refl)
     at j true e = subst (λ (k : ℕ). get_or (set a d n) k 0 ≡ n) (sym (eqb-true j d e)) (get_or-set_same a d n 0 l)
     at j false e = get_or-set_other a d j n 0 (λ z. eqb-false j d e z)
 
+-- nothing stands past the list's end, where the column is within it
+pub column_narrow : (a : List ℕ) (d n k : ℕ) → d < length a → length a ≤ k → column d n (vec a) k ≡ 0
+column_narrow a d n k h l = rw (ne_eqb k d (λ e. omega arith)) (get_or-eq_default a 0 l)
+
 -- one that is raised
 pub column_raised : (a : List ℕ) (d n : ℕ) → d < length a → vec (set a d (max (get_or a d 0) n)) ≡ greatest (vec a) (column d n zeros)
 column_raised a d n l = column_set a d (max (get_or a d 0) n) l ∙ fun_ext (λ j. at j (eqb j d) refl)
@@ -88,6 +92,11 @@ all_raised w a e u v l h p q =
     beyond : (j : ℕ) → w ≤ j → get_or a j 0 ≡ 0
     beyond j k = get_or-eq_default a 0 (omega arith)
 
+-- a column of a vector among words
+pub part_at : (w at : ℕ) (t : List ℕ) (i : ℕ) → i < w → part w at t i ≡ get_or t (at + i) 0
+unfolding part
+part_at w at t i h = get_or-take w (drop at t) i 0 h ∙ get_or-drop at t i 0
+
 -- a vector among words, with zeros after its columns
 pub part_then_zeros : (w at : ℕ) (t z : List ℕ) {l : List ℕ} → vec z ≡ zeros → l ≡ take (at + w - at) (drop at t) → vec (l ++ drop w z) ≡ part w at t
 unfolding part
@@ -105,6 +114,11 @@ columns_take w a h = columns_same w (vec a) (part w 0 a) (record { at = λ j l. 
 
 pub take_long : (w : ℕ) (a : List ℕ) → w ≤ length a → length (take w a) ≡ w
 take_long w a h = part_length w 0 a (omega arith)
+
+-- no number but 0 is at most 0
+pub zero_leb : (n : ℕ) → eqb n 0 ≡ leb n 0
+zero_leb zero = refl
+zero_leb (suc n) = ne_eqb (suc n) 0 (λ e. omega arith) ∙ sym (lt-leb (suc n) 0 (omega arith))
 
 -- zeros as words are the vector of zeros
 pub zeros_vec : (w : ℕ) → vec (replicate w 0) ≡ zeros

@@ -1,7 +1,8 @@
 // What the rules say at one row of two tables that are accepted, and who is ahead there.
-ghost use Rattle.std.specs.Prelude.{◌≡◌, Ok};
+ghost use Rattle.std.specs.Prelude.{◌≡◌, ◌≤◌, Ok};
 ghost use Rattle.paper.specs.Words.{table_of};
 ghost use Rattle.paper.specs.Calls.{two_refused, ruling_here, side, masked, masks_told, ahead_refused, ahead_here, masks_of};
+ghost use Rattle.paper.specs.Devices.{devices};
 ghost use Rattle.paper.specs.Named.{side_number};
 ghost use Rattle.verdict.specs.SaidOf.{said_of};
 
@@ -38,21 +39,21 @@ pub fn ruling_at<const N: usize>(
     if target[at + Row::KIND] == Row::FOLDER {
         return None;
     }
-    let ka = known_time(source, row, w);
-    let kb = known_time(target, row, w);
+    let ka = known_time(source, row, N);
+    let kb = known_time(target, row, N);
     let ruling = judge(&source[at..end], &target[at..end], ka, kb);
     Some(ruling)
 }
 
 // Who is ahead at a row in conflict: the masks of what the source knows beyond the target, and the target beyond the source.
-pub fn masks_at<const N: usize>(source: &[u32], target: &[u32], row: usize, w: Width<N>) -> Ahead
-    requires { ahead_refused N source.now target.now row ≡ 0 }
-    ensures { masked (masks_told (Ok result)) ≡ masks_of (ahead_here N (table_of N source.now) (table_of N target.now) row) }
+pub fn masks_at(source: &[u32], target: &[u32], row: usize, columns: usize) -> Ahead
+    requires { (ahead_refused columns source.now target.now row ≡ 0) × (columns ≤ devices) }
+    ensures { masked (masks_told (Ok result)) ≡ masks_of (ahead_here columns (table_of columns source.now) (table_of columns target.now) row) }
 {
-    let ka = known_time(source, row, w);
-    let kb = known_time(target, row, w);
+    let ka = known_time(source, row, columns);
+    let kb = known_time(target, row, columns);
     Ahead {
-        source: ka.ahead(kb, N),
-        target: kb.ahead(ka, N),
+        source: ka.ahead(kb, columns),
+        target: kb.ahead(ka, columns),
     }
 }

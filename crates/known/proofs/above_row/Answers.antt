@@ -3,4 +3,4 @@ use native.Mathlib.Omega.{arith}
 use Rattle.known.proofs.above_row.Goals as goal
 
 pub returns : goal.returns
-returns g c = let d = c.loop-left.invariant in found _ _ _ _ _ _ d (omega (arith, c.loop-left-test.false))
+returns c = let d = c.loop-left.invariant in found _ _ _ _ _ _ d (omega (arith, c.loop-left-test.false))

@@ -4,7 +4,7 @@ use Rattle.paper.specs.Columns.{vec}
 use Rattle.known.proofs.above_row.Given as goal
 
 abbrev pub invariant-loop-left : goal.invariant-loop-left
-invariant-loop-left g l = Down g.row.N l.t l.row (vec l.floors.0) l.rows l.left
+invariant-loop-left l = Down l.columns l.t l.row (vec l.floors.0) l.rows l.left
 
 abbrev pub decreases-loop-left : goal.decreases-loop-left
-decreases-loop-left g l = l.left
+decreases-loop-left l = l.left

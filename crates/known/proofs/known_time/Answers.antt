@@ -9,6 +9,6 @@ use Rattle.known.proofs.known_time.Goals as goal
 
 pub returns : goal.returns
 unfolding table_of
-returns g c =
-    let n = wide g.row.N in
-    c.full.ensures ∙ ap₂ (full _) c.above_row-floors.ensures (c.read-floor.ensures ∙ sym (part_row g.row.N n 8 ((c.args.row + 1) * n) c.args.t.now (omega arith)))
+returns c =
+    let n = wide c.args.columns in
+    c.full.ensures ∙ ap₂ (full _) c.above_row-floors.ensures (c.read-floor.ensures ∙ sym (part_row c.args.columns n 8 ((c.args.row + 1) * n) c.args.t.now (omega arith)))

@@ -56,11 +56,11 @@ clock_of-b-requires g c = omega (arith, room g (goal.at.clock_of-b-requires g c)
 
 pub above_row-ua-requires : goal.above_row-ua-requires
 above_row-ua-requires g c =
-    let s = (goal.at.above_row-ua-requires g c).Start in let p = accepted g.row.N _ _ _ _ c.requires.0 in (omega arith, (p.source, p.in_source))
+    let s = (goal.at.above_row-ua-requires g c).Start in let p = accepted g.row.N _ _ _ _ c.requires.0 in record { t_value = (p.source, c.args.w.few); row_bound = p.in_source }
 
 pub above_row-ub-requires : goal.above_row-ub-requires
 above_row-ub-requires g c =
-    let s = (goal.at.above_row-ub-requires g c).Start in let p = accepted g.row.N _ _ _ _ c.requires.0 in (omega arith, (p.target, p.in_target))
+    let s = (goal.at.above_row-ub-requires g c).Start in let p = accepted g.row.N _ _ _ _ c.requires.0 in record { t_value = (p.target, c.args.w.few); row_bound = p.in_target }
 
 pub overflow_add-from : goal.overflow_add-from
 overflow_add-from g c = omega (arith, room g (goal.at.overflow_add-from g c).Start)

@@ -44,7 +44,7 @@ overflow_add-end g c = omega (arith, room g (goal.at.overflow_add-end g c).Start
 
 pub known_time-known-requires : goal.known_time-known-requires
 known_time-known-requires g c =
-    let s = (goal.at.known_time-known-requires g c).Start in (omega arith, ((both g s).source, (both g s).in_source))
+    let s = (goal.at.known_time-known-requires g c).Start in record { t_value = ((both g s).source, c.args.w.few); row_bound = (both g s).in_source }
 
 pub bounds-target-0 : goal.bounds-target-0
 bounds-target-0 g c = omega (arith, room g (goal.at.bounds-target-0 g c).Start)

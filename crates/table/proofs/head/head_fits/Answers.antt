@@ -10,33 +10,32 @@ use Prim.Native.Nat.{◌+◌, ◌-◌, ◌*◌}
 use mathlib.Core.Bool.{false}
 use mathlib.Core.Path.{◌≡◌, sym, ap, ◌∙◌}
 use Rattle.table.proofs.head.head_fits.Goals as goal
-use Rattle.table.proofs.head.head_fits.Given.{Over}
 use Rattle.table.proofs.head.head_fits.Goals.{Start}
 
-bad : (g : Over) (c : Start g) → (HeadFits g.row.N c.args.t.now → ⊥) → false ≡ head_fits g.row.N c.args.t.now
-bad g c h = sym (not_so _ (λ e. h (head_facts g.row.N c.args.t.now e)))
+bad : (c : Start) → (HeadFits c.args.columns c.args.t.now → ⊥) → false ≡ head_fits c.args.columns c.args.t.now
+bad c h = sym (not_so _ (λ e. h (head_facts c.args.columns c.args.t.now e)))
 
 pub returns-then-t-width : goal.returns-then-t-width
-returns-then-t-width g c = let s = (goal.at.returns-then-t-width g c).Start in bad g s (λ f. omega arith)
+returns-then-t-width c = let s = (goal.at.returns-then-t-width c).Start in bad s (λ f. omega arith)
 
-pub returns-then-device : goal.returns-then-device
-returns-then-device g c = let s = (goal.at.returns-then-device g c).Start in bad g s (λ f. omega arith)
+pub returns-then-columns-device : goal.returns-then-columns-device
+returns-then-columns-device c = let s = (goal.at.returns-then-columns-device c).Start in bad s (λ f. omega arith)
 
 pub returns-then-rows-eq0 : goal.returns-then-rows-eq0
-returns-then-rows-eq0 g c = let s = (goal.at.returns-then-rows-eq0 g c).Start in bad g s (λ f. omega arith)
+returns-then-rows-eq0 c = let s = (goal.at.returns-then-rows-eq0 c).Start in bad s (λ f. omega arith)
 
 pub returns-then-rows-gt-MOST_ROWS : goal.returns-then-rows-gt-MOST_ROWS
-returns-then-rows-gt-MOST_ROWS g c = let s = (goal.at.returns-then-rows-gt-MOST_ROWS g c).Start in bad g s (λ f. omega arith)
+returns-then-rows-gt-MOST_ROWS c = let s = (goal.at.returns-then-rows-gt-MOST_ROWS c).Start in bad s (λ f. omega arith)
 
 pub returns-then-t-rows : goal.returns-then-t-rows
-returns-then-t-rows g c = let s = (goal.at.returns-then-t-rows g c).Start in bad g s (λ f. c.if-t-rows.true f.long)
+returns-then-t-rows c = let s = (goal.at.returns-then-t-rows c).Start in bad s (λ f. c.if-t-rows.true f.long)
 
 pub returns-then-t-sign_of : goal.returns-then-t-sign_of
-returns-then-t-sign_of g c = let s = (goal.at.returns-then-t-sign_of g c).Start in bad g s (λ f. c.if-t-sign_of.true (f.sign ∙ sym c.sign_of.ensures))
+returns-then-t-sign_of c = let s = (goal.at.returns-then-t-sign_of c).Start in bad s (λ f. c.if-t-sign_of.true (f.sign ∙ sym c.sign_of.ensures))
 
 pub returns : goal.returns
-returns g c =
-    let b : 4 + 4 * g.row.N ≡ wide g.row.N - 4 = omega arith in
+returns c =
+    let b : 4 + 4 * c.args.columns ≡ wide c.args.columns - 4 = omega arith in
     c.is_blank.ensures ∙ ap (λ n. blank (take n (drop 4 c.args.t.now))) (sym b)
-    ∙ head_rest g.row.N c.args.t.now (omega (arith, c.if-device)) (omega (arith, c.if-rows-eq0)) (omega (arith, c.if-rows-gt-MOST_ROWS)) c.if-t-rows.false
+    ∙ head_rest c.args.columns c.args.t.now (omega (arith, c.if-columns-device)) (omega (arith, c.if-rows-eq0)) (omega (arith, c.if-rows-gt-MOST_ROWS)) c.if-t-rows.false
     (c.if-t-sign_of.false ∙ c.sign_of.ensures)

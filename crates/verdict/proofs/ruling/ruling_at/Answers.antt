@@ -50,11 +50,11 @@ returns-then-target-at-eq-FOLDER g c =
 
 pub known_time-ka-requires : goal.known_time-ka-requires
 known_time-ka-requires g c =
-    let s = (goal.at.known_time-ka-requires g c).Start in (omega arith, ((two g s).source, (two g s).in_source))
+    let s = (goal.at.known_time-ka-requires g c).Start in record { t_value = ((two g s).source, c.args.w.few); row_bound = (two g s).in_source }
 
 pub known_time-kb-requires : goal.known_time-kb-requires
 known_time-kb-requires g c =
-    let s = (goal.at.known_time-kb-requires g c).Start in (omega arith, ((two g s).target, (two g s).in_target))
+    let s = (goal.at.known_time-kb-requires g c).Start in record { t_value = ((two g s).target, c.args.w.few); row_bound = (two g s).in_target }
 
 pub offset_bounds-source-at : goal.offset_bounds-source-at
 offset_bounds-source-at g c = let r = in_target g (goal.at.offset_bounds-source-at g c).Start in omega (arith, r.room, r.few)

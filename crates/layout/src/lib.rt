@@ -151,7 +151,7 @@ fn is_summed<const N: usize>(r: &[u32], own: Summary, w: Width<N>) -> bool
     requires { wide N ≤ length r.now }
     ensures { result ≡ summed N r.now (vec own.newest.0) (vec own.least.0) (vec own.most.0) }
 {
-    let said = Summary::of_folder(r, w);
+    let said = Summary::of_folder(r, N);
     said.newest.same(own.newest, N) && said.least.same(own.least, N) && said.most.same(own.most, N)
 }
 

@@ -35,7 +35,7 @@ pub fn raise_folder<const N: usize>(s: &[u32], t: &mut [u32], a: Above, b: Above
 {
     let least = full_at(s, Row::FLOOR + 2 * N, a, N);
     raise_floor(true, t, b.clock, least, w);
-    let rows = Summary::of_folder(t, w);
+    let rows = Summary::of_folder(t, N);
     Summary::mend(Some(rows), t, w);
 }
 

@@ -1,10 +1,11 @@
 // What refuses a new table, and one table alone: an event, a widening.
-ghost use Rattle.std.specs.Prelude.{◌≡◌, cond, false, eqb, IfOk};
+ghost use Rattle.std.specs.Prelude.{◌≡◌, ◌≤◌, cond, false, eqb, IfOk};
 ghost use Rattle.paper.specs.Acts.{fits, takes_content};
 ghost use Rattle.paper.specs.Words.{kind_of};
 ghost use Rattle.paper.specs.Refusals.{number_in};
 ghost use Rattle.paper.specs.Calls.{new_refused, event_named, event_refused};
 ghost use Rattle.paper.specs.Named.{event_number};
+ghost use Rattle.paper.specs.Devices.{devices};
 ghost use Rattle.paper.specs.Widths;
 ghost use Rattle.paper.specs.Widths.{width_of, widen_refused};
 ghost use Rattle.vector.specs.Wideness.{columns_in};
@@ -18,23 +19,19 @@ use vector::head::Head;
 use vector::row::{Columns, Row, Wide};
 use vector::width::Width;
 
-// The first refusal of a new table of this width: 17, 2, 9.
+// The first refusal of a new table of so many columns: 17, 2, 9.
 #[tactic(auto, unfolding(paper::specs::Calls::new_refused), using(crate::proofs::FirstRefused::refusals))]
-pub fn new_refused<const N: usize>(
-    device: u32,
-    plan: &[u32],
-    table: &[u32],
-    w: Width<N>,
-) -> Result<(), Refusal>
-    ensures { number_in result ≡ new_refused N device plan.now table.now }
+pub fn new_refused(columns: usize, device: u32, plan: &[u32], table: &[u32]) -> Result<(), Refusal>
+    requires { columns ≤ devices }
+    ensures { number_in result ≡ new_refused columns device plan.now table.now }
 {
-    if N <= device as usize {
+    if columns <= device as usize {
         return Err(Refusal::NoSuchDevice);
     }
     if !plan_fits(plan) {
         return Err(Refusal::Table(Fault::Order));
     }
-    let width = Row::FLOOR + 4 * N;
+    let width = Row::FLOOR + 4 * columns;
     if table.len() != plan.len() * width + width {
         return Err(Refusal::WrongLength);
     }

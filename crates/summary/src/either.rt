@@ -22,6 +22,19 @@ pub fn of_rows(t: &[u32], columns: usize) -> Option<Summary>
     Summary::of_rows(t, Width::<16>::of())
 }
 
+// Puts right the summaries in the row of a folder with these children.
+pub fn mend(children: Option<Summary>, row: &mut [u32], columns: usize)
+    requires width { Widths.Width columns }
+    requires columns_in_bounds { wide columns ≤ length row.old }
+    ensures { row.new ≡ mended columns (said children) row.old }
+{
+    if columns == Narrow::COLUMNS {
+        Summary::mend(children, row, Width::<8>::of());
+        return;
+    }
+    Summary::mend(children, row, Width::<16>::of());
+}
+
 // Puts the summaries of a folder right, by the rows of its children: all that stands after its own row.
 pub fn mend_folder(t: &mut [u32], columns: usize)
     requires columns_in_bounds { (wide columns ≤ length t.old) × Widths.Width columns }

@@ -3,4 +3,4 @@ use Rattle.plan.proofs.CutPlans.{Upto}
 use Rattle.plan.proofs.write_table.Given as goal
 
 abbrev pub invariant-loop-row : goal.invariant-loop-row
-invariant-loop-row g l = Upto g.row.N l.device l.p l.t l.row
+invariant-loop-row l = Upto l.columns l.device l.p l.t l.row

@@ -13,45 +13,44 @@ use Rattle.laws.proofs.Refusals.{first_none, first_passed, first_met, first_held
 use Rattle.vector.proofs.Parts.{words_small}
 use Rattle.refused.proofs.NewTable.{plan_few}
 use Rattle.refused.proofs.of_table.new_refused.Goals as goal
-use Rattle.refused.proofs.of_table.new_refused.Given.{Over}
-use Rattle.refused.proofs.of_table.new_refused.Goals.{After-plan_fits, Else-device, Else-not-plan_fits, Start}
+use Rattle.refused.proofs.of_table.new_refused.Goals.{After-plan_fits, Else-columns-device, Else-not-plan_fits, Start}
 
 -- the device is a column, and the plan gives rows
-device : (g : Over) (c : Else-device g) → let s = (goal.at.Else-device g c).Start in leb g.row.N s.args.device ≡ false
-device g c = lt-leb g.row.N c.args.device (omega (arith, c.if-device.false))
+device : (c : Else-columns-device) → let s = (goal.at.Else-columns-device c).Start in leb s.args.columns s.args.device ≡ false
+device c = lt-leb c.args.columns c.args.device (omega (arith, c.if-columns-device.false))
 
-plan : (g : Over) (c : After-plan_fits g) → plan_fits g.row.N c.args.plan.now ≡ c.plan_fits.result
+plan : (c : After-plan_fits) → plan_fits c.args.columns c.args.plan.now ≡ c.plan_fits.result
 unfolding plan_fits
-plan g c = sym (c.plan_fits.ensures _)
+plan c = sym (c.plan_fits.ensures _)
 
-small : (g : Over) (c : Else-not-plan_fits g) → let s = (goal.at.Else-not-plan_fits g c).Start in length s.args.plan.now * wide g.row.N ≤ most_rows * wide devices
-small g c =
-    words_small (length c.args.plan.now) (wide g.row.N) (plan_few g.row.N _ (plan g (goal.at.Else-not-plan_fits g c).After-plan_fits ∙ c.if-not-plan_fits.false)) (omega (arith, c.args.w.few))
+small : (c : Else-not-plan_fits) → let s = (goal.at.Else-not-plan_fits c).Start in length s.args.plan.now * wide s.args.columns ≤ most_rows * wide devices
+small c =
+    words_small (length c.args.plan.now) (wide c.args.columns) (plan_few c.args.columns _ (plan (goal.at.Else-not-plan_fits c).After-plan_fits ∙ c.if-not-plan_fits.false)) (omega (arith, c.requires))
 
-pub returns-then-device : goal.returns-then-device
+pub returns-then-columns-device : goal.returns-then-columns-device
 unfolding new_refused
-returns-then-device g c = sym (first_met 16 _ (le-leb g.row.N c.args.device (omega (arith, c.if-device.true))))
+returns-then-columns-device c = sym (first_met 16 _ (le-leb c.args.columns c.args.device (omega (arith, c.if-columns-device.true))))
 
 pub returns-then-not-plan_fits : goal.returns-then-not-plan_fits
 unfolding new_refused
-returns-then-not-plan_fits g c =
-    sym (first_passed _ _ (device g (goal.at.returns-then-not-plan_fits g c).Else-device)
-    ∙ first_failed 1 _ (plan g (goal.at.returns-then-not-plan_fits g c).After-plan_fits ∙ c.if-not-plan_fits.true))
+returns-then-not-plan_fits c =
+    sym (first_passed _ _ (device (goal.at.returns-then-not-plan_fits c).Else-columns-device)
+    ∙ first_failed 1 _ (plan (goal.at.returns-then-not-plan_fits c).After-plan_fits ∙ c.if-not-plan_fits.true))
 
 pub overflow_mul-plan : goal.overflow_mul-plan
-overflow_mul-plan g c = omega (arith, small g c, c.args.w.few)
+overflow_mul-plan c = omega (arith, small c, c.requires)
 
 pub overflow_add-plan : goal.overflow_add-plan
-overflow_add-plan g c = omega (arith, small g c, c.args.w.few)
+overflow_add-plan c = omega (arith, small c, c.requires)
 
 pub returns-then-table-plan : goal.returns-then-table-plan
 unfolding new_refused
-returns-then-table-plan g c =
-    sym (first_passed _ _ (device g (goal.at.returns-then-table-plan g c).Else-device) ∙ first_held _ _ (plan g (goal.at.returns-then-table-plan g c).After-plan_fits ∙ c.if-not-plan_fits.false)
+returns-then-table-plan c =
+    sym (first_passed _ _ (device (goal.at.returns-then-table-plan c).Else-columns-device) ∙ first_held _ _ (plan (goal.at.returns-then-table-plan c).After-plan_fits ∙ c.if-not-plan_fits.false)
     ∙ first_failed 8 _ (ne_eqb _ _ c.if-table-plan.true))
 
 pub returns : goal.returns
 unfolding new_refused
-returns g c =
-    sym (first_passed _ _ (device g (goal.at.returns g c).Else-device) ∙ first_held _ _ (plan g (goal.at.returns g c).After-plan_fits ∙ c.if-not-plan_fits.false)
+returns c =
+    sym (first_passed _ _ (device (goal.at.returns c).Else-columns-device) ∙ first_held _ _ (plan (goal.at.returns c).After-plan_fits ∙ c.if-not-plan_fits.false)
     ∙ first_held _ _ (eq-eqb _ _ c.if-table-plan.false) ∙ first_none)

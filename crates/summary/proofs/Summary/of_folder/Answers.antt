@@ -5,4 +5,4 @@ use mathlib.Core.Option.{some}
 use Rattle.summary.proofs.Summary.of_folder.Goals as goal
 
 pub returns : goal.returns
-returns g c = sums_same c.read.ensures (ap some c.read-2.ensures) c.read-3.ensures
+returns c = sums_same c.read.ensures (ap some c.read-2.ensures) c.read-3.ensures

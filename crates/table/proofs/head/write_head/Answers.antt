@@ -5,5 +5,5 @@ use mathlib.Core.Path.{ap, ◌∙◌}
 use Rattle.table.proofs.head.write_head.Goals as goal
 
 pub returns : goal.returns
-returns g c =
-    head_set g.row.N _ _ _ _ _ (c.blank_out.ensures ∙ ap (λ x. replicate x 0) c.requires) c.sign_of.ensures
+returns c =
+    head_set c.args.columns _ _ _ _ _ (c.blank_out.ensures ∙ ap (λ x. replicate x 0) c.requires.0) c.sign_of.ensures
